@@ -1,0 +1,14 @@
+pub mod FieldLaws
+pub mod DifferingLaws
+pub mod PowerSums
+pub mod Distance
+pub mod Locator
+pub mod Roots
+pub mod Values
+pub mod Kernel
+pub mod KernelRows
+pub mod DivisionValues
+pub mod Carrier
+pub mod OctetField
+pub mod ParityFacts
+pub mod LeastDistance

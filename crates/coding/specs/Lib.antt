@@ -1,0 +1,5 @@
+pub mod Codewords
+pub mod Field
+pub mod Sums
+pub mod Kernel
+pub mod Decoder
