@@ -1,8 +1,8 @@
--- The number of places in which two rows differ is a distance: zero only at equal rows, the same both ways, and no less than by a third row.
-use mathlib.Core.Path.{_≡_, refl, sym, ap, ap₂, _∙_}
+-- The number of places in which two rows differ is a distance: zero only at equal rows, the same both ways, and no more than by way of a third row.
+use mathlib.Core.Path.{_≡_, refl, sym, ap₂, _∙_}
 use mathlib.Core.Bool.{Bool, true, false, cond}
-use mathlib.Core.List.{List, [], _∷_}
-use Prim.Native.Nat.{ℕ, _+_, _≤_}
+use mathlib.Core.List.{List, [], _∷_, _++_}
+use Prim.Native.Nat.{ℕ, suc, _+_, _≤_}
 use native.Mathlib.Omega.{arith}
 use lib.ListN.{length}
 use Rattle.std.proofs.shelf.Tests.{both-ways}
@@ -55,3 +55,15 @@ module _ {E : Type 0} {K : Operations E} (C : Compares K) where
         | true ↦ λ e z. ap₂ {C = List E} (λ x xs. x ∷ xs) (C .equal a b e) (differing-none w c (omega arith) (omega arith))
         | false ↦ λ e z. absurd (omega arith)
       ]) refl none
+
+  differing-most : (w c : List E) → differing K w c ≤ length w
+  differing-most [] c = omega arith
+  differing-most (a ∷ w) [] = omega arith
+  differing-most (a ∷ w) (b ∷ c) =
+      let rest = differing-most w c in
+      elim (same a b) as (λ t. cond t 0 1 + differing K w c ≤ suc (length w)) [ true ↦ omega arith | false ↦ omega arith ]
+
+  -- rows that begin with the same differ only after that
+  pub differing-after : (a b c : List E) → differing K (a ++ b) (a ++ c) ≤ length b
+  differing-after [] b c = differing-most b c
+  differing-after (x ∷ a) b c = rw (C .alike x x refl) (omega (arith, differing-after a b c))

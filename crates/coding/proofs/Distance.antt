@@ -2,17 +2,17 @@
 use mathlib.Core.Path.{_≡_, refl, sym, ap, ap₂, _∙_}
 use mathlib.Core.Bool.{Bool, true, false, cond}
 use mathlib.Core.List.{List, [], _∷_}
-use Prim.Native.Nat.{ℕ, suc, _+_, _≤_, _<_}
+use Prim.Native.Nat.{ℕ, _+_, _≤_, _<_}
 use native.Mathlib.Omega.{arith}
-use Rattle.elements.specs.Laws.{Operations}
-use Rattle.elements.specs.Differences.{differing}
 use lib.ListN.{length}
 use Rattle.std.specs.shelf.Lists.{All}
+use Rattle.elements.specs.Laws.{Operations}
+use Rattle.elements.specs.Differences.{differing}
 use Rattle.coding.specs.Field.{Field}
-use Rattle.coding.specs.Sums.{Distinct, Zero, Nonzero, pow, Vanishes, horner, PowersApart}
+use Rattle.coding.specs.Sums.{Distinct, Zero, Nonzero, pow, Vanishes, horner}
 use Rattle.coding.proofs.FieldLaws.{ring, zero-plus, pow-apart, pow-swap, sum-apart, apart-of-false, compares}
-use Rattle.coding.proofs.PowerSums.{Term, locators, psum, vandermonde}
 use Rattle.coding.proofs.DifferingLaws.{differing-none}
+use Rattle.coding.proofs.PowerSums.{Term, locators, psum, vandermonde}
 
 module _ {F : Type 0} (K : Operations F) where
   open Operations K using (zero as 𝟘, add as _⊕_, mul as _⊗_, same)
@@ -24,6 +24,10 @@ module _ {F : Type 0} (K : Operations F) where
   evalHigh [] x = 𝟘
   evalHigh (a ∷ w) x = a ⊗ pow K x (length w) ⊕ evalHigh w x
 
+  -- the first n powers of α are distinct
+  abbrev pub PowersApart : F → ℕ → Type 0
+  PowersApart α n = (i j : ℕ) → i < j → j < n → ¬ (pow K α i ≡ pow K α j)
+
   -- the places in which two words differ: by how much, and the locator of the place, which is α to the number of places after it
   abbrev pub diffs : F → List F → List F → List (Term F)
   diffs α [] c = []
@@ -31,7 +35,7 @@ module _ {F : Type 0} (K : Operations F) where
   diffs α (a ∷ w) (b ∷ c) = cond (same a b) (diffs α w c) (record { value = a ⊕ b; at = pow K α (length w) } ∷ diffs α w c)
 
 module _ {F : Type 0} {K : Operations F} (L : Field K) where
-  open Operations K using (zero as 𝟘, one as 𝟙, add as _⊕_, mul as _⊗_, inv, same)
+  open Operations K using (zero as 𝟘, add as _⊕_, mul as _⊗_, same)
 
   infixl 65 _⊕_
   infixl 70 _⊗_
@@ -90,7 +94,7 @@ module _ {F : Type 0} {K : Operations F} (L : Field K) where
       let rest = diffs-values α w c in
       (elim (same a b) as (λ t. same a b ≡ t → All (λ p. Nonzero K (p .value)) (cond t (diffs K α w c) (record { value = a ⊕ b; at = pow K α (length w) } ∷ diffs K α w c))) [
         | true ↦ λ e. rest
-        | false ↦ λ e. (sum-apart L a b (apart-of-false L a b e), rest)
+        | false ↦ λ e. (sum-apart L a b (apart-of-false (compares L) a b e), rest)
       ]) refl
 
   -- what holds of each power of α below the length holds of each locator

@@ -8,7 +8,7 @@ use Rattle.elements.specs.Laws.{Operations}
 use Rattle.elements.specs.Division.{less, divided}
 use Rattle.coding.specs.Field.{Field}
 use Rattle.coding.specs.Sums.{pow}
-use Rattle.coding.proofs.FieldLaws.{ring, same-of-sum, pow-add, neg-self, add-self}
+use Rattle.coding.proofs.FieldLaws.{ring, same-of-sum, pow-add, neg-self}
 use Rattle.coding.proofs.Distance.{evalHigh}
 
 module _ {F : Type 0} (K : Operations F) where
@@ -33,7 +33,7 @@ module _ {F : Type 0} (K : Operations F) where
       ∙ omega (arith, length-replicate (length gs) (K .zero))
 
 module _ {F : Type 0} {K : Operations F} (L : Field K) where
-  open Operations K using (zero as 𝟘, one as 𝟙, add as _⊕_, neg, mul as _⊗_)
+  open Operations K using (zero as 𝟘, one as 𝟙, add as _⊕_, mul as _⊗_)
 
   infixl 65 _⊕_
   infixl 70 _⊗_

@@ -11,6 +11,9 @@ use Rattle.coding.specs.Sums.{pow}
 pub apart-false : {F : Type 0} {K : Operations F} → Compares K → (x y : F) → ¬ (x ≡ y) → K .same x y ≡ false
 apart-false {K} C x y n = (elim (K .same x y) as (λ t. K .same x y ≡ t → t ≡ false) [ true ↦ λ e. absurd (n (C .equal x y e)) | false ↦ λ e. refl ]) refl
 
+pub apart-of-false : {F : Type 0} {K : Operations F} → Compares K → (x y : F) → K .same x y ≡ false → ¬ (x ≡ y)
+apart-of-false {K} C x y h e = both-ways (K .same x y) h (C .alike x y e)
+
 module _ {F : Type 0} {K : Operations F} (L : Field K) where
   open Operations K using (zero as 𝟘, one as 𝟙, add as _⊕_, mul as _⊗_, inv, same)
 
@@ -90,9 +93,6 @@ module _ {F : Type 0} {K : Operations F} (L : Field K) where
 
   pub compares : Compares K
   compares = record { equal = L .same-true; alike = λ x y e. ap (same x) (sym e) ∙ L .same-refl x }
-
-  pub apart-of-false : (a b : F) → same a b ≡ false → ¬ (a ≡ b)
-  apart-of-false a b h e = both-ways (same a b) h (compares .alike a b e)
 
   pub pow-apart : (x : F) (n : ℕ) → ¬ (x ≡ 𝟘) → ¬ (pow K x n ≡ 𝟘)
   pow-apart x zero h = L .one-not-zero

@@ -4,14 +4,14 @@ use mathlib.Core.Bool.{true, false, cond}
 use mathlib.Core.List.{List, [], _∷_}
 use Prim.Native.Nat.{ℕ, zero, suc, _+_, _≤_, _<_}
 use native.Mathlib.Omega.{arith}
-use Rattle.elements.specs.Laws.{Operations}
 use lib.ListN.{length, getD, replicate, length-replicate}
 use Rattle.std.specs.shelf.Lists.{All}
 use Rattle.std.proofs.shelf.Elements.{all-weaker}
+use Rattle.elements.specs.Laws.{Operations}
 use Rattle.coding.specs.Field.{Field}
 use Rattle.coding.specs.Sums.{Zero, Nonzero}
 use Rattle.coding.specs.Kernel.{dot, scale, addMul, unit}
-use Rattle.coding.proofs.FieldLaws.{ring, apart-of-false}
+use Rattle.coding.proofs.FieldLaws.{ring, apart-of-false, compares}
 
 -- a vector that is left, with the coordinate that is its own
 pub record Alive (F : Type 0) : Type 0 where
@@ -49,7 +49,6 @@ module _ {F : Type 0} (K : Operations F) where
   -- what each vector keeps
   pub record Good (n : ℕ) (rs : List (List F)) (v : Alive F) : Type 0 where
     pub long : length (v .row) ≡ n
-    pub inside : v .own < n
     pub one : getD (v .row) (v .own) 𝟘 ≡ 𝟙
     pub solves : All (λ r. dot K r (v .row) ≡ 𝟘) rs
 
@@ -60,6 +59,19 @@ module _ {F : Type 0} (K : Operations F) where
   abbrev AllApart : List (Alive F) → Type 0
   AllApart [] = Unit {0}
   AllApart (v ∷ vs) = All (Apart v) vs × AllApart vs
+
+  -- lengths
+
+  pub length-addMul : (c : F) (u v : List F) → length u ≡ length v → length (addMul K c u v) ≡ length u
+  length-addMul c [] [] h = refl
+  length-addMul c [] (b ∷ v) h = absurd (omega arith)
+  length-addMul c (a ∷ u) [] h = refl
+  length-addMul c (a ∷ u) (b ∷ v) h = ap suc (length-addMul c u v (omega arith))
+
+  pub length-unit : (n i : ℕ) → length (unit K n i) ≡ n
+  length-unit zero i = refl
+  length-unit (suc n) zero = ap suc (length-replicate n 𝟘)
+  length-unit (suc n) (suc i) = ap suc (length-unit n i)
 
 abbrev Kept : {F : Type 0} → Operations F → (Alive F → Type 0) → Type 0
 Kept {F} K P = (c : F) (u p : Alive F) → P u → P p → P (mix K c u p)
@@ -80,15 +92,15 @@ module _ {F : Type 0} {K : Operations F} (L : Field K) where
   infixl 70 _⊗_
   -- vectors
 
-  dot-scale-step : (r c b d : F) → r ⊗ (c ⊗ b) ⊕ c ⊗ d ≡ c ⊗ (r ⊗ b ⊕ d)
+  dot-scale-step : (r c b d : F) → c ⊗ b ⊗ r ⊕ c ⊗ d ≡ c ⊗ (b ⊗ r ⊕ d)
   dot-scale-step r c b d = simp (ring, L)
 
   dot-scale : (r : List F) (c : F) (v : List F) → dot K r (scale K c v) ≡ c ⊗ dot K r v
   dot-scale [] c v = simp (ring, L)
   dot-scale (r ∷ rs) c [] = simp (ring, L)
-  dot-scale (r ∷ rs) c (b ∷ v) = ap (λ z. r ⊗ (c ⊗ b) ⊕ z) (dot-scale rs c v) ∙ dot-scale-step r c b (dot K rs v)
+  dot-scale (r ∷ rs) c (b ∷ v) = ap (λ z. c ⊗ b ⊗ r ⊕ z) (dot-scale rs c v) ∙ dot-scale-step r c b (dot K rs v)
 
-  dot-addMul-step : (r a c b d e : F) → r ⊗ (a ⊕ c ⊗ b) ⊕ (d ⊕ c ⊗ e) ≡ (r ⊗ a ⊕ d) ⊕ c ⊗ (r ⊗ b ⊕ e)
+  dot-addMul-step : (r a c b d e : F) → (a ⊕ c ⊗ b) ⊗ r ⊕ (d ⊕ c ⊗ e) ≡ (a ⊗ r ⊕ d) ⊕ c ⊗ (b ⊗ r ⊕ e)
   dot-addMul-step r a c b d e = simp (ring, L)
 
   plain-zero : (a c : F) → a ≡ a ⊕ c ⊗ 𝟘
@@ -101,7 +113,7 @@ module _ {F : Type 0} {K : Operations F} (L : Field K) where
   dot-addMul [] c u v = simp (ring, L)
   dot-addMul (r ∷ rs) c [] v = dot-scale (r ∷ rs) c v ∙ zero-plain (c ⊗ dot K (r ∷ rs) v)
   dot-addMul (r ∷ rs) c (a ∷ u) [] = plain-zero (dot K (r ∷ rs) (a ∷ u)) c
-  dot-addMul (r ∷ rs) c (a ∷ u) (b ∷ v) = ap (λ z. r ⊗ (a ⊕ c ⊗ b) ⊕ z) (dot-addMul rs c u v) ∙ dot-addMul-step r a c b (dot K rs u) (dot K rs v)
+  dot-addMul (r ∷ rs) c (a ∷ u) (b ∷ v) = ap (λ z. (a ⊕ c ⊗ b) ⊗ r ⊕ z) (dot-addMul rs c u v) ∙ dot-addMul-step r a c b (dot K rs u) (dot K rs v)
 
   entry-scale : (c : F) (v : List F) (i : ℕ) → entry K (scale K c v) i ≡ c ⊗ entry K v i
   entry-scale c [] i = simp (ring, L)
@@ -113,12 +125,6 @@ module _ {F : Type 0} {K : Operations F} (L : Field K) where
   entry-addMul c (a ∷ u) [] i = plain-zero (entry K (a ∷ u) i) c
   entry-addMul c (a ∷ u) (b ∷ v) zero = refl
   entry-addMul c (a ∷ u) (b ∷ v) (suc i) = entry-addMul c u v i
-
-  length-addMul : (c : F) (u v : List F) → length u ≡ length v → length (addMul K c u v) ≡ length u
-  length-addMul c [] [] h = refl
-  length-addMul c [] (b ∷ v) h = absurd (omega arith)
-  length-addMul c (a ∷ u) [] h = refl
-  length-addMul c (a ∷ u) (b ∷ v) h = ap suc (length-addMul c u v (omega arith))
 
   -- what is kept by u + c · p, the own coordinate that of u, is kept by the step
 
@@ -154,8 +160,7 @@ module _ {F : Type 0} {K : Operations F} (L : Field K) where
   -- a vector that is good stays so, if p is good and apart from it
   good-mix : (n : ℕ) (rs : List (List F)) (c : F) (u p : Alive F) → Good K n rs u → Good K n rs p → Apart K u p → Good K n rs (mix K c u p)
   good-mix n rs c u p g h a = record {
-    long = length-addMul c (u .row) (p .row) (g .long ∙ sym (h .long)) ∙ g .long;
-    inside = g .inside;
+    long = length-addMul K c (u .row) (p .row) (g .long ∙ sym (h .long)) ∙ g .long;
     one = entry-addMul c (u .row) (p .row) (u .own) ∙ ap₂ (λ x y. x ⊕ c ⊗ y) (g .one) (a .1) ∙ simp (ring, L);
     solves = solved-mix rs c u p (g .solves) (h .solves);
   }
@@ -174,7 +179,6 @@ module _ {F : Type 0} {K : Operations F} (L : Field K) where
       let g = good-mix n rs c v p (all .0) h (apart-swap p v (apart .0)) in (
         record {
           long = g .long;
-          inside = g .inside;
           one = g .one;
           solves = (dot-addMul r c (v .row) (p .row) ∙ cancel (dot K r (v .row)) d nonzero, g .solves);
         },
@@ -196,7 +200,7 @@ module _ {F : Type 0} {K : Operations F} (L : Field K) where
   -- one step
 
   solve-more : (n : ℕ) (r : List F) (rs : List (List F)) (v : Alive F) → dot K r (v .row) ≡ 𝟘 → Good K n rs v → Good K n (r ∷ rs) v
-  solve-more n r rs v e g = record { long = g .long; inside = g .inside; one = g .one; solves = (e, g .solves) }
+  solve-more n r rs v e g = record { long = g .long; one = g .one; solves = (e, g .solves) }
 
   good-eliminate : (n : ℕ) (r : List F) (rs : List (List F)) (vs : List (Alive F)) → AllApart K vs → All (Good K n rs) vs → All (Good K n (r ∷ rs)) (eliminate K r vs)
   good-eliminate n r rs [] apart good = tt
@@ -205,7 +209,7 @@ module _ {F : Type 0} {K : Operations F} (L : Field K) where
       let rest = good-eliminate n r rs vs (apart .1) (good .1) in
       (elim (same d 𝟘) as (λ t. same d 𝟘 ≡ t → All (Good K n (r ∷ rs)) (cond t (v ∷ eliminate K r vs) (clear K r v vs))) [
         | true ↦ λ e. (solve-more n r rs v (L .same-true d 𝟘 e) (good .0), rest)
-        | false ↦ λ e. good-clear n r rs v vs (apart-of-false L d 𝟘 e) (good .0) (apart .0) (good .1)
+        | false ↦ λ e. good-clear n r rs v vs (apart-of-false (compares L) d 𝟘 e) (good .0) (apart .0) (good .1)
       ]) refl
 
   apart-eliminate : (r : List F) (vs : List (Alive F)) → AllApart K vs → AllApart K (eliminate K r vs)
@@ -245,11 +249,6 @@ module _ {F : Type 0} {K : Operations F} (L : Field K) where
 
   -- the start
 
-  length-unit : (n i : ℕ) → length (unit K n i) ≡ n
-  length-unit zero i = refl
-  length-unit (suc n) zero = ap suc (length-replicate n 𝟘)
-  length-unit (suc n) (suc i) = ap suc (length-unit n i)
-
   unit-own : (n i : ℕ) → i < n → entry K (unit K n i) i ≡ 𝟙
   unit-own zero i below = absurd (omega arith)
   unit-own (suc n) zero below = refl
@@ -278,7 +277,7 @@ module _ {F : Type 0} {K : Operations F} (L : Field K) where
   good-units : (n i k : ℕ) → i + k ≤ n → All (Good K n []) (units K n i k)
   good-units n i zero h = tt
   good-units n i (suc k) h =
-      (record { long = length-unit n i; inside = omega arith; one = unit-own n i (omega arith); solves = tt }, good-units n (suc i) k (omega arith))
+      (record { long = length-unit K n i; one = unit-own n i (omega arith); solves = tt }, good-units n (suc i) k (omega arith))
 
   length-units : (n i k : ℕ) → length (units K n i k) ≡ k
   length-units n i zero = refl
@@ -289,7 +288,7 @@ module _ {F : Type 0} {K : Operations F} (L : Field K) where
   pub kernel-good : (n : ℕ) (rs : List (List F)) → All (Good K n rs) (kernel K rs (units K n 0 n))
   kernel-good n rs =
       all-weaker (Good K n (onto rs [])) (Good K n rs)
-      (λ v g. record { long = g .long; inside = g .inside; one = g .one; solves = all-onto (λ r. dot K r (v .row) ≡ 𝟘) rs [] (g .solves) .0 })
+      (λ v g. record { long = g .long; one = g .one; solves = all-onto (λ r. dot K r (v .row) ≡ 𝟘) rs [] (g .solves) .0 })
       (kernel K rs (units K n 0 n))
       (good-kernel n rs [] (units K n 0 n) (apart-units n 0 n) (good-units n 0 n (omega arith)))
 

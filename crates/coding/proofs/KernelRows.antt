@@ -1,5 +1,5 @@
 -- Elimination over rows alone, and in the form that a loop over an array has.
-use mathlib.Core.Path.{_≡_, refl, sym, ap, ap₂, subst, _∙_}
+use mathlib.Core.Path.{_≡_, refl, ap, ap₂, subst, _∙_}
 use mathlib.Core.Bool.{Bool, true, false, cond}
 use mathlib.Core.List.{List, [], _∷_, _++_}
 use Prim.Native.Nat.{ℕ, zero, suc, _<_}
@@ -29,6 +29,10 @@ module _ {F : Type 0} (K : Operations F) where
   open Operations K using (zero as 𝟘, mul as _⊗_, inv, same)
 
   infixl 70 _⊗_
+  pub length-clearRows : (r p : List F) (vs : List (List F)) → length (clearRows K r p vs) ≡ length vs
+  length-clearRows r p [] = refl
+  length-clearRows r p (v ∷ vs) = ap suc (length-clearRows r p vs)
+
   rows-clear : (r : List F) (p : Alive F) (vs : List (Alive F)) → rowsOf (clear K r p vs) ≡ clearRows K r (p .row) (rowsOf vs)
   rows-clear r p [] = refl
   rows-clear r p (v ∷ vs) = ap {B = List (List F)} (λ xs. addMul K (dot K r (v .row) ⊗ inv (dot K r (p .row))) (v .row) (p .row) ∷ xs) (rows-clear r p vs)
@@ -67,7 +71,7 @@ module _ {F : Type 0} {K : Operations F} (L : Field K) where
 
 -- what a loop does: the rows before the first that does not solve r stay, that one goes, and those after it are cleared
 module _ {F : Type 0} {K : Operations F} (C : Compares K) where
-  open Operations K using (zero as 𝟘, same)
+  open Operations K using (zero as 𝟘)
 
   pub eliminate-none : (r : List F) (vs : List (List F)) → All (λ v. dot K r v ≡ 𝟘) vs → eliminateRows K r vs ≡ vs
   eliminate-none r [] h = refl

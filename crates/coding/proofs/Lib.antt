@@ -12,3 +12,7 @@ pub mod Carrier
 pub mod OctetField
 pub mod ParityFacts
 pub mod LeastDistance
+pub mod Candidates
+pub mod Decoder
+pub mod CarrierDecoder
+pub mod OctetDecoder

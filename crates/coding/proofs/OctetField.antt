@@ -1,5 +1,5 @@
 -- The octets are a field, and alpha has 255 distinct powers.
-use mathlib.Core.Path.{_≡_, refl, sym, ap, _∙_}
+use mathlib.Core.Path.{_≡_, refl, sym, ap, fun-ext, _∙_}
 use mathlib.Core.Bool.{Bool}
 use mathlib.Core.List.{List}
 use Prim.Native.Nat.{ℕ, zero, suc, _<_}
@@ -15,7 +15,8 @@ use Rattle.elements.proofs.OctetLaws.{octets-laws, power-below, product-power}
 use Rattle.elements.proofs.TableRules.{sets, logarithms}
 use Rattle.elements.proofs.Tests.{every, at}
 use Rattle.coding.specs.Field.{Field}
-use Rattle.coding.specs.Sums.{Nonzero, pow, PowersApart}
+use Rattle.coding.specs.Sums.{Nonzero, pow}
+use Rattle.coding.proofs.Distance.{PowersApart}
 use Rattle.coding.proofs.Carrier.{FieldOn, Part, partOps, part-path, part-field}
 
 pub octets-field : FieldOn Octet octets
@@ -67,12 +68,15 @@ pub pow-power : (k : ℕ) → pow octets 2 k ≡ power k
 pow-power zero = sym power-zero
 pow-power (suc k) = ap (product 2) (pow-power k) ∙ ap (λ a. product a (power k)) (sym power-one) ∙ product-power 1 k ∙ ap power (one-add k)
 
-pub pow-alpha : (k : ℕ) → pow properOps (alpha 1) k ≡ alpha k
+pow-alpha : (k : ℕ) → pow properOps (alpha 1) k ≡ alpha k
 pow-alpha k = part-path octets-field _ _ (below k)
   where
     below : (k : ℕ) → pow properOps (alpha 1) k .0 ≡ power k
     below zero = sym power-zero
     below (suc k) = ap (product (power 1)) (below k) ∙ product-power 1 k ∙ ap power (one-add k)
+
+pub alpha-is : pow properOps (alpha 1) ≡ alpha
+alpha-is = fun-ext pow-alpha
 
 pub alpha-nonzero : Nonzero properOps (alpha 1)
 alpha-nonzero e = let z : _≡_ {A = ℕ} 2 0 = sym power-one ∙ ap (λ x. x .0) e in omega arith

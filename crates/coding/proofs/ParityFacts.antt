@@ -1,25 +1,25 @@
 -- The parity of a message has 16 octets, and a message with its parity behind it vanishes at alpha^1 to alpha^16.
 use mathlib.Core.Path.{_≡_, refl, sym, ap, ap₂, subst, _∙_}
-use mathlib.Core.Bool.{Bool, cond}
 use mathlib.Core.List.{List, [], _∷_, _++_, map-append}
 use Prim.Native.Nat.{ℕ, zero, suc, _+_, _-_, _≤_, _<_}
 use native.Mathlib.Omega.{arith}
-use lib.Bits.{bitXor, xor-zero-l}
-use lib.Dec.{T, ltb, ltb→lt}
+use lib.Bits.{xor-zero-l}
+use lib.Dec.{ltb, ltb→lt}
 use lib.ListN.{length, getD, take, drop, replicate, length-append, length-replicate, take-append-drop}
 use Rattle.std.specs.shelf.Lists.{All}
-use Rattle.std.proofs.shelf.Elements.{all-from-getD, all-take, all-drop}
+use Rattle.std.proofs.shelf.Elements.{all-from-getD, all-take, all-append}
+use Rattle.std.proofs.shelf.Lists.{take-at, drop-at}
 use Rattle.elements.specs.Octets.{octets, Octet, double, times, product, squares, inverse, power}
 use Rattle.elements.specs.Polynomials.{onto}
 use Rattle.elements.specs.Division.{divided, division}
 use Rattle.elements.specs.Checks.{dividend, check}
-use Rattle.elements.proofs.Tests.{every, at, agree}
+use Rattle.elements.proofs.Tests.{at, agree}
 use Rattle.coding.specs.Sums.{horner}
-use Rattle.coding.specs.Codewords.{roots-up-to, generator, parity, Codeword}
 use Rattle.coding.specs.Decoder.{InCode}
-use Rattle.coding.proofs.Carrier.{low, lift, low-lift, length-lift, low-ok, part-path, low-horner, low-left}
+use Rattle.coding.specs.Codewords.{roots-up-to, generator, parity, Codeword}
 use Rattle.coding.proofs.Distance.{evalHigh, horner-eval}
 use Rattle.coding.proofs.DivisionValues.{left, length-left, left-value}
+use Rattle.coding.proofs.Carrier.{low, lift, low-lift, low-ok, part-path, low-horner, low-left}
 use Rattle.coding.proofs.OctetField.{octets-field, Proper, properOps, proper, alpha}
 
 -- computed of the generator
@@ -74,10 +74,10 @@ length-parity m = ap length (parity-is m) ∙ length-left octets 1 tail m ∙ ta
 abbrev one′ : Proper
 one′ = properOps .one
 
-abbrev tail′ : List (Proper)
+abbrev tail′ : List Proper
 tail′ = lift Octet tail tail-octets
 
-left-low : (m : List (Proper)) → low (left properOps one′ tail′ m) ≡ parity (low m)
+left-low : (m : List Proper) → low (left properOps one′ tail′ m) ≡ parity (low m)
 left-low m = low-left octets-field one′ tail′ m ∙ ap (λ g. left octets 1 g (low m)) (low-lift Octet tail tail-octets) ∙ sym (parity-is (low m))
 
 pub parity-octets : (m : List ℕ) → All Octet m → All Octet (parity m)
@@ -106,6 +106,18 @@ pub codeword-parts : (w : List ℕ) → Codeword w → (m : List ℕ) × All Oct
 codeword-parts w c =
     let n = length w - 16 in
     (take n w, all-take Octet n w (c .octets-all), sym (take-append-drop n w) ∙ ap (λ r. take n w ++ r) (c .ends))
+
+pub codeword-made : (m : List ℕ) → All Octet m → 1 ≤ length m → length m ≤ 224 → Codeword (m ++ parity m)
+codeword-made m h some few =
+    let long : length (m ++ parity m) ≡ length m + 16 = length-append m (parity m) ∙ ap (λ n. length m + n) (length-parity m) in
+    let n = length (m ++ parity m) - 16 in
+    let at-m : length m ≡ n = omega arith in
+    record {
+      octets-all = all-append Octet m (parity m) h (parity-octets m h);
+      long = omega arith;
+      short = omega arith;
+      ends = drop-at m (parity m) n at-m ∙ ap parity (sym (take-at m (parity m) n at-m));
+    }
 
 pub codeword-vanishes : (w : List ℕ) → Codeword w → InCode octets power 16 w
 codeword-vanishes w c zero from to = absurd (omega arith)

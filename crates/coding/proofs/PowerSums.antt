@@ -3,9 +3,9 @@ use mathlib.Core.Path.{_≡_, refl, sym, ap, ap₂, _∙_}
 use mathlib.Core.List.{List, [], _∷_}
 use Prim.Native.Nat.{ℕ, zero, suc, _≤_}
 use native.Mathlib.Omega.{arith}
-use Rattle.elements.specs.Laws.{Operations}
 use lib.ListN.{length}
 use Rattle.std.specs.shelf.Lists.{All}
+use Rattle.elements.specs.Laws.{Operations}
 use Rattle.coding.specs.Field.{Field}
 use Rattle.coding.specs.Sums.{Distinct, Zero, Nonzero, pow, Vanishes}
 use Rattle.coding.proofs.FieldLaws.{ring, add-zero, zero-factor, sum-apart, pow-apart}
@@ -43,7 +43,7 @@ module _ {F : Type 0} (K : Operations F) where
   length-weigh f (p ∷ ps) = ap suc (length-weigh f ps)
 
 module _ {F : Type 0} {K : Operations F} (L : Field K) where
-  open Operations K using (zero as 𝟘, one as 𝟙, add as _⊕_, mul as _⊗_, inv, same)
+  open Operations K using (zero as 𝟘, add as _⊕_, mul as _⊗_)
 
   infixl 65 _⊕_
   infixl 70 _⊗_

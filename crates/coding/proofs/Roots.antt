@@ -3,10 +3,10 @@ use mathlib.Core.Path.{_≡_, refl, sym, ap, ap₂, _∙_}
 use mathlib.Core.List.{List, [], _∷_}
 use Prim.Native.Nat.{suc, _≤_, _<_}
 use native.Mathlib.Omega.{arith}
-use Rattle.elements.specs.Laws.{Operations}
 use native.Mathlib.Decide.{decLt}
 use lib.ListN.{length}
 use Rattle.std.specs.shelf.Lists.{All}
+use Rattle.elements.specs.Laws.{Operations}
 use Rattle.coding.specs.Field.{Field}
 use Rattle.coding.specs.Sums.{Distinct, Zero, evalLow}
 use Rattle.coding.proofs.FieldLaws.{ring, mul-comm, add-zero, zero-factor, sum-apart}
@@ -19,7 +19,7 @@ module _ {F : Type 0} (K : Operations F) where
   quotient r (v ∷ u ∷ us) = evalLow K (u ∷ us) r ∷ quotient r (u ∷ us)
 
 module _ {F : Type 0} {K : Operations F} (L : Field K) where
-  open Operations K using (zero as 𝟘, one as 𝟙, add as _⊕_, mul as _⊗_, inv, same)
+  open Operations K using (zero as 𝟘, add as _⊕_, mul as _⊗_)
 
   infixl 65 _⊕_
   infixl 70 _⊗_

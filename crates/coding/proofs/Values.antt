@@ -4,13 +4,13 @@ use mathlib.Core.Bool.{true, false, cond}
 use mathlib.Core.Logic.{_⊎_, inl, inr}
 use mathlib.Core.List.{List, [], _∷_}
 use Prim.Native.Nat.{ℕ, suc}
-use Rattle.elements.specs.Laws.{Operations}
 use lib.ListN.{length}
 use Rattle.std.specs.shelf.Lists.{All}
+use Rattle.elements.specs.Laws.{Operations}
 use Rattle.coding.specs.Field.{Field}
 use Rattle.coding.specs.Sums.{Nonzero, pow, evalLow, slide, timesRoot, fromRoots}
+use Rattle.coding.proofs.FieldLaws.{ring, mul-one, mul-assoc, mul-apart, sum-apart, apart-of-false, compares}
 use Rattle.coding.proofs.PowerSums.{Term, locators, psum, weigh}
-use Rattle.coding.proofs.FieldLaws.{ring, mul-one, mul-assoc, mul-apart, sum-apart, apart-of-false}
 use Rattle.coding.proofs.Locator.{slide-psum}
 
 -- x is one of the row
@@ -26,6 +26,14 @@ module _ {F : Type 0} (K : Operations F) where
   abbrev pub valueAt : List (Term F) → F → F
   valueAt [] y = 𝟘
   valueAt (p ∷ ps) y = cond (same (p .at) y) (p .value) 𝟘 ⊕ valueAt ps y
+
+  length-timesRoot : (y c : F) (vs : List F) → length (timesRoot K y c vs) ≡ suc (length vs)
+  length-timesRoot y c [] = refl
+  length-timesRoot y c (v ∷ vs) = ap suc (length-timesRoot y v vs)
+
+  pub length-fromRoots : (ys : List F) → length (fromRoots K ys) ≡ suc (length ys)
+  length-fromRoots [] = refl
+  length-fromRoots (y ∷ ys) = length-timesRoot y 𝟘 (fromRoots K ys) ∙ ap suc (length-fromRoots ys)
 
 module _ {F : Type 0} {K : Operations F} (L : Field K) where
   open Operations K using (zero as 𝟘, one as 𝟙, add as _⊕_, mul as _⊗_, inv, same)
@@ -43,14 +51,6 @@ module _ {F : Type 0} {K : Operations F} (L : Field K) where
   pub fromRoots-more : (y : F) (ys : List F) (x : F) → evalLow K (fromRoots K (y ∷ ys)) x ≡ (x ⊕ y) ⊗ evalLow K (fromRoots K ys) x
   fromRoots-more y ys x = timesRoot-eval y 𝟘 (fromRoots K ys) x ∙ simp (ring, L)
 
-  pub length-timesRoot : (y c : F) (vs : List F) → length (timesRoot K y c vs) ≡ suc (length vs)
-  length-timesRoot y c [] = refl
-  length-timesRoot y c (v ∷ vs) = ap suc (length-timesRoot y v vs)
-
-  pub length-fromRoots : (ys : List F) → length (fromRoots K ys) ≡ suc (length ys)
-  length-fromRoots [] = refl
-  length-fromRoots (y ∷ ys) = length-timesRoot y 𝟘 (fromRoots K ys) ∙ ap suc (length-fromRoots ys)
-
   pub root-zero : (x : F) (ys : List F) → Within x ys → evalLow K (fromRoots K ys) x ≡ 𝟘
   root-zero x [] h = absurd h
   root-zero x (y ∷ ys) (inl e) = fromRoots-more y ys x ∙ ap (λ a. (x ⊕ a) ⊗ evalLow K (fromRoots K ys) x) (sym e) ∙ simp (ring, L)
@@ -66,7 +66,7 @@ module _ {F : Type 0} {K : Operations F} (L : Field K) where
       let away : (x ≡ y) ⊎ (f x ≡ 𝟘) → ¬ (x ≡ y) → f x ≡ 𝟘 = λ h n. elim h [ inl e ↦ absurd (n e) | inr z ↦ z ] in
       (elim (same x y) as (λ t. same x y ≡ t → e ⊗ f x ⊗ pow K x k ≡ cond t e 𝟘 ⊗ (f y ⊗ pow K y k)) [
         | true ↦ λ s. ap (λ a. e ⊗ f a ⊗ pow K a k) (L .same-true x y s) ∙ mul-assoc L e (f y) (pow K y k)
-        | false ↦ λ s. ap (λ a. e ⊗ a ⊗ pow K x k) (away h (apart-of-false L x y s)) ∙ simp (ring, L)
+        | false ↦ λ s. ap (λ a. e ⊗ a ⊗ pow K x k) (away h (apart-of-false (compares L) x y s)) ∙ simp (ring, L)
       ]) refl
 
   pick-step : (a b d : F) → a ⊗ d ⊕ b ⊗ d ≡ (a ⊕ b) ⊗ d

@@ -16,7 +16,7 @@ module _ {F : Type 0} (K : Operations F) where
   abbrev pub dot : List F → List F → F
   dot [] v = 𝟘
   dot (r ∷ rs) [] = 𝟘
-  dot (r ∷ rs) (a ∷ v) = r ⊗ a ⊕ dot rs v
+  dot (r ∷ rs) (a ∷ v) = a ⊗ r ⊕ dot rs v
 
   abbrev pub scale : F → List F → List F
   scale c [] = []

@@ -25,10 +25,6 @@ module _ {F : Type 0} (K : Operations F) where
   pow x zero = 𝟙
   pow x (suc n) = x ⊗ pow x n
 
-  -- the first n powers of α are distinct
-  abbrev pub PowersApart : F → ℕ → Type 0
-  PowersApart α n = (i j : ℕ) → i < j → j < n → ¬ (pow α i ≡ pow α j)
-
   -- n zeros of f in a row, from s on
   abbrev pub Vanishes : (ℕ → F) → ℕ → ℕ → Type 0
   Vanishes f s n = (k : ℕ) → s ≤ k → k < s + n → f k ≡ 𝟘

@@ -1,1 +1,5 @@
 pub mod GeneratorTable
+pub mod Scans
+pub mod CodewordTest
+pub mod ChangeCounts
+pub mod Layers

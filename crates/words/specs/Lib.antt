@@ -1,2 +1,4 @@
 pub mod Refusals
 pub mod Coder
+pub mod Changes
+pub mod Menders
