@@ -3,3 +3,4 @@ pub mod Scans
 pub mod CodewordTest
 pub mod ChangeCounts
 pub mod Layers
+pub mod Mendings

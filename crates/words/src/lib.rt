@@ -4,6 +4,7 @@ pub mod change;
 pub mod coder;
 pub mod fault;
 pub mod mender;
+pub mod mending;
 pub mod parity;
 
 pub use acceptance::accept;
@@ -20,5 +21,6 @@ pub use mender::Still;
 pub use mender::StillMender;
 pub use mender::Then;
 pub use mender::ThenMender;
+pub use mending::mend;
 pub use parity::Parity;
 pub use parity::ParityCheck;
