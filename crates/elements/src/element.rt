@@ -39,7 +39,7 @@ pub trait Element: Copy {
 }
 
 // Does nothing: each value of the row is proper.
-pub fn all_proper<E: Element>(row: &[E])
+pub(crate) fn all_proper<E: Element>(row: &[E])
     ensures { λ _. ⌜ All ok (now (row .entry)) ⌝ }
 {
     for x in row {
