@@ -1,0 +1,15 @@
+pub mod Lengths
+pub mod LineBits
+pub mod BitPlaces
+pub mod CheckBits
+pub mod Registers
+pub mod Mixing
+pub mod Scrambling
+pub mod PhyFields
+pub mod HeaderBits
+pub mod HeaderBack
+pub mod PayloadBack
+pub mod CodesApart
+pub mod ReadsBack
+pub mod OnlyOne
+pub mod Rebuilt

@@ -1,0 +1,11 @@
+pub mod Sequences
+pub mod Bits
+pub mod Codes
+pub mod Modes
+pub mod Header
+pub mod Payload
+pub mod Frame
+pub mod Reading
+pub mod Fits
+pub mod Known
+pub mod Refusals

@@ -1,0 +1,29 @@
+// The format of frames: modes, codes, sequences and headers, and what is proved of them.
+pub mod code;
+pub mod fault;
+pub mod hcs;
+pub mod header;
+pub mod known;
+pub mod laws;
+pub mod mode;
+pub mod modes;
+pub mod phy;
+pub mod sequence;
+pub mod sizes;
+
+pub use code::Code;
+pub use fault::DoorFault;
+pub use hcs::header_check;
+pub use hcs::Hcs;
+pub use hcs::HcsCheck;
+pub use header::pack;
+pub use header::unpack;
+pub use known::known_pieces;
+pub use laws::fitting_reach;
+pub use mode::Mode;
+pub use phy::Phy;
+pub use sequence::mix;
+pub use sizes::block_count;
+pub use sizes::frame_length;
+pub use sizes::word_count;
+pub use sequence::Register;
