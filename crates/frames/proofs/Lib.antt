@@ -1,0 +1,10 @@
+pub mod CodeTables
+pub mod Pastes
+pub mod Preambles
+pub mod HeaderWords
+pub mod ChipPlaces
+pub mod BodyWords
+pub mod BlockChips
+pub mod StuffBits
+pub mod WholeFrames
+pub mod Admissions
