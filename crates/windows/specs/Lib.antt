@@ -1,0 +1,4 @@
+pub mod Codes
+pub mod Parts
+pub mod Slices
+pub mod Headers
