@@ -1,0 +1,4 @@
+pub mod Histories
+pub mod BuildSteps
+pub mod Drives
+pub mod ComesBack

@@ -1,0 +1,4 @@
+pub mod Tallies
+pub mod Runs
+pub mod Law
+pub mod Orders
