@@ -1,0 +1,15 @@
+// Octets as hexadecimal digits.
+use std::fmt;
+
+#[derive(Clone, Copy)]
+pub struct Hex<'a>(pub &'a [u8]);
+
+pub impl fmt::Display for Hex<'_> as HexDisplay {
+    fn fmt<W: fmt::Write>(&self, f: &mut fmt::Formatter<W>) -> fmt::Result {
+        for octet in self.0 {
+            let o = *octet;
+            write!(f, "{o:02x}")?;
+        }
+        Ok(())
+    }
+}
