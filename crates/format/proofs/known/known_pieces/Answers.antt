@@ -10,20 +10,23 @@ use Rattle.format.proofs.known.known_pieces.Needs as need
 pub returns : need.returns
 unfolding product times double power inverse squares parity generator roots-up-to next advanced after drawn key mixed scrambler spreader bits line octets-of high-first code-a code-b hcs
 returns c = record {
-  seed-0 = refl;
-  seed-1 = refl;
-  spreading = refl;
-  mac-scrambled = refl;
-  hcs-sent = refl;
-  parity-first = refl;
-  parity-last = refl;
-  top-times-alpha = refl;
-  empty-frame = refl;
-  blocks-224 = refl;
-  blocks-225 = refl;
-  stuff-225 = refl;
-  octets-2048 = refl;
-  blocks-2048 = refl;
-  chips-2048 = refl;
-  codes-apart = refl;
+  count = refl;
+  pieces = record {
+    seed-0 = refl;
+    seed-1 = refl;
+    spreading = refl;
+    mac-scrambled = refl;
+    hcs-sent = refl;
+    parity-first = refl;
+    parity-last = refl;
+    top-times-alpha = refl;
+    empty-frame = refl;
+    blocks-224 = refl;
+    blocks-225 = refl;
+    stuff-225 = refl;
+    octets-2048 = refl;
+    blocks-2048 = refl;
+    chips-2048 = refl;
+    codes-apart = refl;
+  };
 }
