@@ -1,7 +1,7 @@
 // What a read delivers, and what a build answers.
+use format::Mode;
 use format::mode::ModeDebug;
 use format::mode::ModePartialEq;
-use format::Mode;
 
 // A delivered frame: its mode, its seed, whether it is aggregated, the body's length, and how many word octets were mended.
 #[derive(Clone, Copy, PartialEq, Eq, Debug)]

@@ -3,12 +3,12 @@ ghost use mathlib.Core.Path.{_≡_};
 ghost use Rattle.account.specs.declared.fault.HeaderFault.the-variants.{Word as header-word};
 ghost use Rattle.account.specs.declared.fault.PayloadFault.the-variants.{Word as payload-word};
 ghost use Rattle.account.specs.declared.fault.Fault.the-variants.{Door, Preamble, Header, Payload};
+use format::DoorFault;
 use format::fault::DoorFaultDebug;
 use format::fault::DoorFaultPartialEq;
-use format::DoorFault;
+use words::WordFault;
 use words::fault::WordFaultDebug;
 use words::fault::WordFaultPartialEq;
-use words::WordFault;
 
 #[derive(Clone, Copy, PartialEq, Eq, Debug)]
 pub enum PreambleFault {

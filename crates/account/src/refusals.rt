@@ -14,11 +14,31 @@ impl PreambleFault {
         ensures { λ r. ⌜ r ≡ preamble-refusal self ⌝ }
     {
         match self {
-            PreambleFault::Unreadable(code) => Refusal { number: 9, layer: Layer::Preamble, place: code },
-            PreambleFault::Unsigned => Refusal { number: 10, layer: Layer::Preamble, place: 0 },
-            PreambleFault::Estimation => Refusal { number: 11, layer: Layer::Preamble, place: 0 },
-            PreambleFault::NoMode => Refusal { number: 12, layer: Layer::Preamble, place: 0 },
-            PreambleFault::Channels => Refusal { number: 13, layer: Layer::Preamble, place: 0 },
+            PreambleFault::Unreadable(code) => Refusal {
+                number: 9,
+                layer: Layer::Preamble,
+                place: code,
+            },
+            PreambleFault::Unsigned => Refusal {
+                number: 10,
+                layer: Layer::Preamble,
+                place: 0,
+            },
+            PreambleFault::Estimation => Refusal {
+                number: 11,
+                layer: Layer::Preamble,
+                place: 0,
+            },
+            PreambleFault::NoMode => Refusal {
+                number: 12,
+                layer: Layer::Preamble,
+                place: 0,
+            },
+            PreambleFault::Channels => Refusal {
+                number: 13,
+                layer: Layer::Preamble,
+                place: 0,
+            },
         }
     }
 }
@@ -28,10 +48,26 @@ impl HeaderFault {
         ensures { λ r. ⌜ r ≡ header-refusal self ⌝ }
     {
         match self {
-            HeaderFault::Word(_) => Refusal { number: 14, layer: Layer::Header, place: 0 },
-            HeaderFault::Check => Refusal { number: 15, layer: Layer::Header, place: 0 },
-            HeaderFault::Reserved => Refusal { number: 16, layer: Layer::Header, place: 0 },
-            HeaderFault::Length => Refusal { number: 17, layer: Layer::Header, place: 0 },
+            HeaderFault::Word(_) => Refusal {
+                number: 14,
+                layer: Layer::Header,
+                place: 0,
+            },
+            HeaderFault::Check => Refusal {
+                number: 15,
+                layer: Layer::Header,
+                place: 0,
+            },
+            HeaderFault::Reserved => Refusal {
+                number: 16,
+                layer: Layer::Header,
+                place: 0,
+            },
+            HeaderFault::Length => Refusal {
+                number: 17,
+                layer: Layer::Header,
+                place: 0,
+            },
         }
     }
 }
@@ -41,8 +77,16 @@ impl PayloadFault {
         ensures { λ r. ⌜ r ≡ payload-refusal self ⌝ }
     {
         match self {
-            PayloadFault::Ends => Refusal { number: 18, layer: Layer::Payload, place: 0 },
-            PayloadFault::Word(place, _) => Refusal { number: 19, layer: Layer::Payload, place },
+            PayloadFault::Ends => Refusal {
+                number: 18,
+                layer: Layer::Payload,
+                place: 0,
+            },
+            PayloadFault::Word(place, _) => Refusal {
+                number: 19,
+                layer: Layer::Payload,
+                place,
+            },
         }
     }
 }

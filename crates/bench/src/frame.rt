@@ -7,10 +7,10 @@ use frames::write_frame;
 use receiver::preamble::read_mode;
 use std::alloc::Global;
 use std::error::AnyError;
+use windows::Window;
 use windows::body_word;
 use windows::header_word;
 use windows::open_header;
-use windows::Window;
 
 pub const MAC: &[u8; 10] = b"\x01\x02\x03\x04\x05\x06\x07\x08\x09\x0a";
 
@@ -27,8 +27,21 @@ fn show_parts(rt: &impl Print, window: Window<'_>) -> Result<(), AnyError> {
     let opened = open_header(&header_word(part));
     let mut word = [0u8; 240];
     let size = body_word(window, mode, 36, 0, &mut word);
-    println!(rt, "  read      mode {}, seed {}, length {}, {} chips", mode.number(), opened.phy.seed, opened.phy.length, frame_length(mode, 36))?;
-    println!(rt, "  header    {} chips at {}, MAC header {}", part.chips.len(), part.place, Hex(&opened.mac))?;
+    println!(
+        rt,
+        "  read      mode {}, seed {}, length {}, {} chips",
+        mode.number(),
+        opened.phy.seed,
+        opened.phy.length,
+        frame_length(mode, 36)
+    )?;
+    println!(
+        rt,
+        "  header    {} chips at {}, MAC header {}",
+        part.chips.len(),
+        part.place,
+        Hex(&opened.mac)
+    )?;
     println!(rt, "  word 1    {size} octets")?;
     Ok(())
 }
@@ -41,6 +54,10 @@ pub fn show_frame(rt: &(impl Print + Alloc<A = Global>)) -> Result<(), AnyError>
         println!(rt, "  not written")?;
         return Ok(());
     };
-    println!(rt, "  written   mode 3, seed 5, length {}, {n} chips", PAGE.len())?;
+    println!(
+        rt,
+        "  written   mode 3, seed 5, length {}, {n} chips",
+        PAGE.len()
+    )?;
     show_parts(rt, Window::new(chips.as_slice()))
 }

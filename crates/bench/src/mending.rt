@@ -6,13 +6,13 @@ use menders::FullMender;
 use menders::Single;
 use menders::SingleMender;
 use std::error::AnyError;
-use words::accept;
 use words::Change;
 use words::Mender;
 use words::Still;
 use words::StillMender;
 use words::Then;
 use words::ThenMender;
+use words::accept;
 
 fn show_changes(rt: &impl Print, changes: &[Change]) -> Result<(), AnyError> {
     for c in changes {
@@ -22,7 +22,12 @@ fn show_changes(rt: &impl Print, changes: &[Change]) -> Result<(), AnyError> {
 }
 
 // The proposal of one mender, and whether it is accepted.
-fn show_proposal<M: Mender>(rt: &impl Print, name: &str, mender: &mut M, word: &[u8]) -> Result<(), AnyError> {
+fn show_proposal<M: Mender>(
+    rt: &impl Print,
+    name: &str,
+    mender: &mut M,
+    word: &[u8],
+) -> Result<(), AnyError> {
     let mut out = [Change::BLANK; 16];
     print!(rt, "    {name:<18}")?;
     let Some(n) = mender.propose(word, &mut out) else {
@@ -46,7 +51,15 @@ pub fn show_mending(rt: &impl Print) -> Result<(), AnyError> {
         show_proposal(rt, "still", &mut Still {}, &word)?;
         show_proposal(rt, "single", &mut Single, &word)?;
         show_proposal(rt, "full", &mut Full, &word)?;
-        show_proposal(rt, "single, then full", &mut Then { first: Single, second: Full }, &word)?;
+        show_proposal(
+            rt,
+            "single, then full",
+            &mut Then {
+                first: Single,
+                second: Full,
+            },
+            &word,
+        )?;
     }
     Ok(())
 }

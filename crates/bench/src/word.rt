@@ -35,7 +35,11 @@ pub fn show_word(rt: &impl Print) -> Result<(), AnyError> {
     let mut parity = [0u8; 15];
     if let Err(e) = encode(PAGE, &mut parity) {
         let refusal = e.refusal();
-        println!(rt, "  a parity buffer of 15 octets: refused by {} at the word coder", refusal.number)?;
+        println!(
+            rt,
+            "  a parity buffer of 15 octets: refused by {} at the word coder",
+            refusal.number
+        )?;
     }
     Ok(())
 }

@@ -82,7 +82,7 @@ module _ {E : Type 0} {ok : E → Type 0} {o : Operations E} (laws : Laws ok o) 
       ap (λ l. drop n (divided o u gs n l))
       (ap (less o (o .mul a u) gs) (onto-push rs ys hy (omega arith))
       ∙ less-onto (o .mul a u) gs (rs ++ (o .zero ∷ [])) ys (laws .closed .mul a u ha hu) hg (all-push ok rs (o .zero) hr (laws .closed .zero)) hy
-        (omega (arith, length-push rs (o .zero))) (omega (arith, length-push rs (o .zero))))
+      (omega (arith, length-push rs (o .zero))) (omega (arith, length-push rs (o .zero))))
 
   stepped-left : (g : E) (gs rs : List E) (r x : E) → length gs ≡ suc (length rs)
       → stepped o (g ∷ gs) (r ∷ rs) x ≡ drop 1 (left-by (o .same g (o .zero)) (o .inv g) gs 1 (o .add r x ∷ (rs ++ (o .zero ∷ []))))
@@ -105,7 +105,7 @@ module _ {E : Type 0} {ok : E → Type 0} {o : Operations E} (laws : Laws ok o) 
       let fits : length reg ≤ length (msg ++ zeros (length gs)) = omega (arith, length-append msg (zeros (length gs)), length-replicate (length gs) (o .zero)) in
       ap (λ d. drop (length msg) (division o (g ∷ gs) (dividend o d reg msg) .1)) same
       ∙ ap (drop (length msg)) (division-row g gs (onto o reg (msg ++ zeros (length gs))) (length msg)
-        (omega (arith, length-onto o reg (msg ++ zeros (length gs)) fits, length-append msg (zeros (length gs)), length-replicate (length gs) (o .zero))))
+      (omega (arith, length-onto o reg (msg ++ zeros (length gs)) fits, length-append msg (zeros (length gs)), length-replicate (length gs) (o .zero))))
 
   -- one element more of the message
   pub check-step : (g : E) (gs reg msg : List E) (x : E) → ok g → All ok gs → All ok reg → ok x → All ok msg → 0 < length reg → length reg ≡ length gs
@@ -118,7 +118,7 @@ module _ {E : Type 0} {ok : E → Type 0} {o : Operations E} (laws : Laws ok o) 
       check-is g gs (stepped o (g ∷ gs) (r ∷ rs) x) msg (length-stepped g gs rs r x (sym long) ∙ long)
       ∙ ap (λ l. drop (length msg) (left-by t u gs (length msg) (onto o l ys))) (stepped-left g gs rs r x (sym long))
       ∙ sym (step-by t u (o .add r x) gs rs ys (length msg) (laws .inverses .inv-ok g hg) (laws .closed .add r x (hr .0) hx) hgs (hr .1)
-          (all-append ok msg (zeros (length gs)) hm (zeros-ok laws (length gs))) (sym long) (omega (arith, length-append msg (zeros (length gs)), length-replicate (length gs) (o .zero))))
+      (all-append ok msg (zeros (length gs)) hm (zeros-ok laws (length gs))) (sym long) (omega (arith, length-append msg (zeros (length gs)), length-replicate (length gs) (o .zero))))
       ∙ sym (check-is g gs (r ∷ rs) (x ∷ msg) long)
 
   left-ok : (t : Bool) (u : E) (gs : List E) (n : ℕ) (xs : List E) → ok u → All ok gs → All ok xs → All ok (left-by t u gs n xs)
@@ -130,7 +130,7 @@ module _ {E : Type 0} {ok : E → Type 0} {o : Operations E} (laws : Laws ok o) 
   stepped-ok g gs (r ∷ rs) x hg hgs hr hx long =
       subst (All ok) (sym (stepped-left g gs rs r x (sym long)))
       (all-drop ok 1 _ (left-ok (o .same g (o .zero)) (o .inv g) gs 1 _ (laws .inverses .inv-ok g hg) hgs
-        (laws .closed .add r x (hr .0) hx, all-push ok rs (o .zero) (hr .1) (laws .closed .zero))))
+      (laws .closed .add r x (hr .0) hx, all-push ok rs (o .zero) (hr .1) (laws .closed .zero))))
 
   -- the check of no elements is what the register holds
   pub check-none : (g : E) (gs reg : List E) → All ok reg → length reg ≡ length gs → check o (g ∷ gs) reg [] ≡ reg

@@ -7,8 +7,8 @@ ghost use lib.ListN.{length, getD, replicate};
 ghost use Rattle.std.specs.declared.option.Option.the-variants.{Some, None};
 ghost use Rattle.std.specs.shelf.Lists.{All};
 ghost use Rattle.elements.specs.Checks.{check, Checks, Generates, laid-out, stepped, room};
-use crate::element::all_proper;
 use crate::element::Element;
+use crate::element::all_proper;
 use crate::polynomial::remainder;
 
 // A check over a kind of element: the remainder of a division by a generator.
@@ -90,7 +90,12 @@ fn wipe<E: Element>(row: &mut [E])
 }
 
 // Leaves the check of the message in the register.
-fn take_in<C: Check>(message: &[C::Element], register: &mut [C::Element], row: &mut [C::Element], divisor: &[C::Element])
+fn take_in<C: Check>(
+    message: &[C::Element],
+    register: &mut [C::Element],
+    row: &mut [C::Element],
+    divisor: &[C::Element],
+)
     requires { ⌜ (now register ≡ preset) × (length (now row) ≡ width + 1) × (now divisor ≡ generator) ⌝ }
     ensures { λ _. ⌜ now (register .exit) ≡ check (Element·Element .ops) generator preset (now (message .entry)) ⌝ }
 {
@@ -102,7 +107,12 @@ fn take_in<C: Check>(message: &[C::Element], register: &mut [C::Element], row: &
 
 // Writes the check of the message and answers how many elements it has. The two rows are lent as room to work in, one place longer than the check;
 // the first comes back as zeros, and the second as the generator. None, with nothing written, if a buffer has another length.
-pub fn checksum<C: Check>(message: &[C::Element], out: &mut [C::Element], row: &mut [C::Element], divisor: &mut [C::Element]) -> Option<usize>
+pub fn checksum<C: Check>(
+    message: &[C::Element],
+    out: &mut [C::Element],
+    row: &mut [C::Element],
+    divisor: &mut [C::Element],
+) -> Option<usize>
     ensures answer { λ r. ⌜ r ≡ cond (room width (now (out .entry)) (now (row .entry)) (now (divisor .entry))) (Some width) None ⌝ }
     ensures out { λ _. ⌜ now (out .exit) ≡ cond (room width (now (out .entry)) (now (row .entry)) (now (divisor .entry))) (check (Element·Element .ops) generator preset (now (message .entry))) (now (out .entry)) ⌝ }
     ensures row { λ _. ⌜ now (row .exit) ≡ cond (room width (now (out .entry)) (now (row .entry)) (now (divisor .entry))) (replicate (width + 1) (Element·Element .ops .zero)) (now (row .entry)) ⌝ }

@@ -34,9 +34,10 @@ pub gather-more : (k o b v whole : ℕ) → k < 8 → o < 2 ^ k → b < 2 → o 
     → (bitOr o (b * 2 ^ k % 2 ^ 8) < 2 ^ (k + 1)) × (bitOr o (b * 2 ^ k % 2 ^ 8) + 2 ^ (k + 1) * v ≡ whole)
 gather-more k o b v whole h low one all =
     let made : bitOr o (b * 2 ^ k % 2 ^ 8) ≡ b * 2 ^ k + o = ap (bitOr o) (shl-whole b 1 k 8 one (omega arith)) ∙ or-shifted-r b k o low in
-    let twice : 2 ^ (k + 1) ≡ 2 ^ k * 2 = pow-add 2 k 1 in
-    (omega (arith, made, twice, mul-le b (2 ^ k) 1 (2 ^ k) (omega arith) (omega arith)),
-     ap₂ (λ m p. m + p * v) made twice ∙ omega (arith, mul-add (2 ^ k) b (2 * v), mul-assoc (2 ^ k) 2 v) ∙ all)
+    let twice : 2 ^ (k + 1) ≡ 2 ^ k * 2 = pow-add 2 k 1 in (
+      omega (arith, made, twice, mul-le b (2 ^ k) 1 (2 ^ k) (omega arith) (omega arith)),
+      ap₂ (λ m p. m + p * v) made twice ∙ omega (arith, mul-add (2 ^ k) b (2 * v), mul-assoc (2 ^ k) 2 v) ∙ all,
+    )
 
 pub octet-more : (k o r b whole : ℕ) → k < 8 → o < 2 ^ k → b ≡ next r → o + 2 ^ k * value (drawn (8 - k) r) ≡ whole
     → (bitOr o (b * 2 ^ k % 2 ^ 8) < 2 ^ (k + 1)) × (bitOr o (b * 2 ^ k % 2 ^ 8) + 2 ^ (k + 1) * value (drawn (8 - (k + 1)) (advanced r)) ≡ whole)

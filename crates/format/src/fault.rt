@@ -39,6 +39,10 @@ impl DoorFault {
             DoorFault::Window => (7, 0),
             DoorFault::Chip(place) => (8, place),
         };
-        Refusal { number, layer: Layer::Door, place }
+        Refusal {
+            number,
+            layer: Layer::Door,
+            place,
+        }
     }
 }

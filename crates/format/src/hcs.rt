@@ -10,12 +10,28 @@ ghost use Rattle.format.specs.Sequences.{value};
 ghost use Rattle.format.specs.Bits.{flag, bit-of, line};
 ghost use Rattle.format.specs.Header.{hcs, hcs-generator};
 use elements::BitElement;
-use elements::checksum;
 use elements::Check;
+use elements::checksum;
 
 // x^16 + x^12 + x^5 + 1, the highest coefficient first.
 const GENERATOR: [bool; 17] = [
-    true, false, false, false, true, false, false, false, false, false, false, true, false, false, false, false, true,
+    true,
+    false,
+    false,
+    false,
+    true,
+    false,
+    false,
+    false,
+    false,
+    false,
+    false,
+    true,
+    false,
+    false,
+    false,
+    false,
+    true,
 ];
 
 pub struct Hcs;

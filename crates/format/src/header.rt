@@ -7,14 +7,25 @@ use crate::phy::Phy;
 pub fn pack(h: Phy) -> [u8; 4]
     ensures { λ r. ⌜ r ≡ phy-octets h ⌝ }
 {
-    let word = (h.seed & 15) as u32 | (h.aggregation as u32) << 4 | (h.length & 0x7f_ffff) << 5 | ((h.reserved & 15) as u32) << 28;
-    [(word & 255) as u8, (word >> 8 & 255) as u8, (word >> 16 & 255) as u8, (word >> 24 & 255) as u8]
+    let word = (h.seed & 15) as u32
+        | (h.aggregation as u32) << 4
+        | (h.length & 0x7f_ffff) << 5
+        | ((h.reserved & 15) as u32) << 28;
+    [
+        (word & 255) as u8,
+        (word >> 8 & 255) as u8,
+        (word >> 16 & 255) as u8,
+        (word >> 24 & 255) as u8,
+    ]
 }
 
 pub fn unpack(octets: &[u8; 4]) -> Phy
     ensures { λ r. ⌜ r ≡ unpacked (joined (now (octets .entry))) ⌝ }
 {
-    let word = octets[0] as u32 | (octets[1] as u32) << 8 | (octets[2] as u32) << 16 | (octets[3] as u32) << 24;
+    let word = octets[0] as u32
+        | (octets[1] as u32) << 8
+        | (octets[2] as u32) << 16
+        | (octets[3] as u32) << 24;
     Phy {
         seed: (word & 15) as u8,
         aggregation: word >> 4 & 1 == 1,

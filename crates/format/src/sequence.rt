@@ -18,7 +18,13 @@ impl Register {
         ensures { λ r. ⌜ r .bits ≡ scrambler seed ⌝ }
     {
         let s = seed as u16;
-        Register { bits: 0x050b + (s / 8 % 2) * 0x0800 + (s / 4 % 2) * 0x1000 + (s / 2 % 2) * 0x2000 + (s % 2) * 0x4000 }
+        Register {
+            bits: 0x050b
+                + (s / 8 % 2) * 0x0800
+                + (s / 4 % 2) * 0x1000
+                + (s / 2 % 2) * 0x2000
+                + (s % 2) * 0x4000,
+        }
     }
 
     // The spreader's register before its first bit.

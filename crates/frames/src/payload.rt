@@ -11,9 +11,9 @@ ghost use Rattle.format.specs.Payload.{word-count, coded-octets, coded, repeate
 ghost use Rattle.format.specs.Modes.{Row, row};
 ghost use Rattle.frames.specs.Blocks.{block-bits, carried};
 use crate::pieces::put;
-use format::block_count;
 use format::Mode;
 use format::Register;
+use format::block_count;
 use format::mix;
 use words::encode;
 
@@ -90,5 +90,11 @@ pub fn write_payload(chips: &mut [u8], at: usize, mode: Mode, body: &[u8], behin
     ensures { λ _. ⌜ now (chips .exit) ≡ paste (now (chips .entry)) at (blocks (row mode .spread) (block-count (length (now (body .entry)))) (carried (now (body .entry)) (behind .bits))) (512 * row mode .spread * block-count (length (now (body .entry)))) ⌝ }
 {
     let octets = octets_of(body, behind);
-    write_blocks(chips, at, &octets, block_count(body.len() as u16), mode.spread());
+    write_blocks(
+        chips,
+        at,
+        &octets,
+        block_count(body.len() as u16),
+        mode.spread(),
+    );
 }

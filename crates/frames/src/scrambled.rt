@@ -44,11 +44,7 @@ impl<'a> Scrambled<'a> {
         ensures same { λ r. ⌜ name (r .body) ≡ name (body .entry) ⌝ }
     {
         let behind = mix(body, body_start(seed));
-        Scrambled {
-            body,
-            seed,
-            behind,
-        }
+        Scrambled { body, seed, behind }
     }
 }
 

@@ -9,16 +9,16 @@ ghost use Rattle.format.specs.Payload.{block-count, blocks};
 ghost use Rattle.format.specs.Frame.{preamble, header-chips, frame-length};
 ghost use Rattle.frames.specs.Blocks.{carried};
 ghost use Rattle.frames.specs.Writing.{sized, write-answer, write-chips};
-use format::DoorFault;
 use crate::header::word_of;
 use crate::header::write_header;
 use crate::payload::write_payload;
 use crate::preamble::write_preamble;
 use crate::scrambled::Scrambled;
-use format::frame_length;
+use format::DoorFault;
 use format::Mode;
 use format::Phy;
 use format::Register;
+use format::frame_length;
 
 // How many chips a frame has, by its mode and the octets of its body.
 fn length_of(mode: Mode, body: usize) -> usize

@@ -20,10 +20,15 @@ module _ {M : Type 0} (rule : Rule M) where
   -- one order more
   pub driven-push : (s t u : Station M) (os : List Order) (o : Order) (b c d : Buffers) (log : List Answer) (a : Answer)
       → Driven rule s os b log c t → Obeyed rule t o c a d u → Driven rule s (os ++ (o ∷ [])) b (log ++ (a ∷ [])) d u
-  driven-push s t u [] o b c d log a (h) step =
-      (a, d, u, [],
-        subst (λ (x : Buffers). Obeyed rule s o x a d u) (h .1) (subst (λ (x : Station M). Obeyed rule x o c a d u) (h .2) step),
-        (refl, refl, refl), ap (λ l. l ++ (a ∷ [])) (h .0))
+  driven-push s t u [] o b c d log a (h) step = (
+    a,
+    d,
+    u,
+    [],
+    subst (λ (x : Buffers). Obeyed rule s o x a d u) (h .1) (subst (λ (x : Station M). Obeyed rule x o c a d u) (h .2) step),
+    (refl, refl, refl),
+    ap (λ l. l ++ (a ∷ [])) (h .0),
+  )
   driven-push s t u (p ∷ os) o b c d log a h step =
       (h .0, h .1, h .2, h .3 ++ (a ∷ []), h .4, driven-push (h .2) t u os o (h .1) c d (h .3) a (h .5) step, ap (λ l. l ++ (a ∷ [])) (h .6))
 
@@ -48,8 +53,8 @@ module _ {M : Type 0} (rule : Rule M) where
       → Driven rule s (take i os) b (take i log) c t → Obeyed rule t (getD os i other) c a d u → Driven rule s (take (i + 1) os) b (take (i + 1) (set log i a)) d u
   driven-next s t u os i other b c d log a lt same h step =
       subst (λ l. Driven rule s l b (take (i + 1) (set log i a)) d u) (sym (take-more os i other lt))
-        (subst (λ l. Driven rule s (take i os ++ (getD os i other ∷ [])) b l d u) (sym (take-more-set log i a (omega arith)))
-          (driven-push s t u (take i os) (getD os i other) b c d (take i log) a h step))
+      (subst (λ l. Driven rule s (take i os ++ (getD os i other ∷ [])) b l d u) (sym (take-more-set log i a (omega arith)))
+      (driven-push s t u (take i os) (getD os i other) b c d (take i log) a h step))
 
   -- all of them are
   pub driven-all : (s t : Station M) (os : List Order) (i : ℕ) (b c : Buffers) (log : List Answer) → length os ≤ i → length log ≡ length os

@@ -11,11 +11,23 @@ use crate::order::Order;
 use crate::station::Station;
 use words::Mender;
 
-fn obey<M: Mender>(station: &mut Station<M>, order: Order, mac: &mut [u8], body: &mut [u8], chips: &mut [u8]) -> Answer
+fn obey<M: Mender>(
+    station: &mut Station<M>,
+    order: Order,
+    mac: &mut [u8],
+    body: &mut [u8],
+    chips: &mut [u8],
+) -> Answer
     ensures { λ r. ⌜ Obeyed (M·Mender .rule) (now (station .entry)) order (record { mac = now (mac .entry); body = now (body .entry); chips = now (chips .entry) }) r (record { mac = now (mac .exit); body = now (body .exit); chips = now (chips .exit) }) (now (station .exit)) ⌝ }
 {
     match order {
-        Order::Build(mode, aggregation) => Answer::Built(station.build(mode, aggregation, mac, body, chips)),
+        Order::Build(mode, aggregation) => Answer::Built(station.build(
+            mode,
+            aggregation,
+            mac,
+            body,
+            chips,
+        )),
         Order::Read(n) => Answer::Read(station.read(n, chips, body, mac)),
         Order::Delivered(number) => Answer::Delivered(station.delivered(number)),
         Order::Refused(number) => Answer::Refused(station.refused(number)),
@@ -24,7 +36,14 @@ fn obey<M: Mender>(station: &mut Station<M>, order: Order, mac: &mut [u8], body:
 
 // Makes the calls on the common buffers, writes each answer into the log, and answers how many calls there were.
 // None, with nothing done, if the log has not just as many places as there are orders.
-pub fn drive<M: Mender>(station: &mut Station<M>, orders: &[Order], mac: &mut [u8], body: &mut [u8], chips: &mut [u8], log: &mut [Answer]) -> Option<usize>
+pub fn drive<M: Mender>(
+    station: &mut Station<M>,
+    orders: &[Order],
+    mac: &mut [u8],
+    body: &mut [u8],
+    chips: &mut [u8],
+    log: &mut [Answer],
+) -> Option<usize>
     ensures driven { λ r. ⌜ Drives (M·Mender .rule) (eqb (length (now (log .entry))) (length (now (orders .entry)))) (now (station .entry)) (now (orders .entry)) (record { mac = now (mac .entry); body = now (body .entry); chips = now (chips .entry) }) (now (log .entry)) r (record { mac = now (mac .exit); body = now (body .exit); chips = now (chips .exit) }) (now (log .exit)) (now (station .exit)) ⌝ }
     ensures run { λ r. ⌜ (r ≡ Some (length (now (orders .entry))) → ((calls : List Call) × Runs (M·Mender .rule) (now (station .entry)) calls (now (station .exit)) × (length calls ≡ length (now (orders .entry))))) ⌝ }
 {

@@ -22,7 +22,13 @@ impl Tally {
     pub(crate) fn new() -> Tally
         ensures { λ r. ⌜ r ≡ no-tally ⌝ }
     {
-        Tally { rows: [Row { windows: 0, octets: 0 }; 7], refusals: [0; 19] }
+        Tally {
+            rows: [Row {
+                windows: 0,
+                octets: 0,
+            }; 7],
+            refusals: [0; 19],
+        }
     }
 
     // One window more was delivered in a mode, with some octets mended.
@@ -32,7 +38,10 @@ impl Tally {
         let i = mode.number() as usize - 1;
         let row = self.rows[i];
         let more = octets.min(0xffff_ffff) as u32;
-        self.rows[i] = Row { windows: row.windows.saturating_add(1), octets: row.octets.saturating_add(more) };
+        self.rows[i] = Row {
+            windows: row.windows.saturating_add(1),
+            octets: row.octets.saturating_add(more),
+        };
     }
 
     // One build or read more was turned down by a refusal.

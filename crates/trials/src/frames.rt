@@ -1,19 +1,19 @@
 // Frames built and read back, and chips at the edges of what is read.
 use crate::coder::fill;
 use crate::count::Count;
-use account::fault::FaultPartialEq;
 use account::Fault;
 use account::PreambleFault;
+use account::fault::FaultPartialEq;
 use elements::OctetElement;
 use format::Mode;
 use format::Register;
 use station::Station;
 use std::alloc::AllocError;
 use std::alloc::Global;
-use windows::body_word;
-use windows::header_word;
 use windows::Part;
 use windows::Window;
+use windows::body_word;
+use windows::header_word;
 use words::Mender;
 use words::Still;
 use words::StillMender;
@@ -21,7 +21,13 @@ use words::StillMender;
 const MAC: &[u8; 10] = b"\x10\x32\x54\x76\x98\xba\xdc\xfe\x01\x23";
 
 // Whether a frame of this mode and length comes back as it was sent, with nothing to mend.
-fn comes_back<M: Mender>(heap: Global, station: &mut Station<M>, mode: u8, channels: u8, length: usize) -> Result<bool, AllocError> {
+fn comes_back<M: Mender>(
+    heap: Global,
+    station: &mut Station<M>,
+    mode: u8,
+    channels: u8,
+    length: usize,
+) -> Result<bool, AllocError> {
     let mut body = vec![in heap; 0u8; length]?;
     fill(body.as_mut_slice());
     let mut chips = vec![in heap; 0u8; 50176]?;
@@ -33,8 +39,16 @@ fn comes_back<M: Mender>(heap: Global, station: &mut Station<M>, mode: u8, chann
     let Ok(d) = station.read(channels, chips.as_slice(), &mut out, &mut mac) else {
         return Ok(false);
     };
-    let same = elements::differences(body.as_slice(), &out) == 0 && elements::differences(MAC, &mac) == 0;
-    Ok(same && d.seed == built.seed && d.aggregation && d.length == length && d.mended == 0 && d.mode.number() == mode)
+    let same = elements::differences(body.as_slice(), &out) == 0
+        && elements::differences(MAC, &mac) == 0;
+    Ok(
+        same
+            && d.seed == built.seed
+            && d.aggregation
+            && d.length == length
+            && d.mended == 0
+            && d.mode.number() == mode,
+    )
 }
 
 // Every mode at the lengths where words and blocks begin and end.
@@ -79,7 +93,10 @@ fn majority(heap: Global, lit: usize) -> Result<u8, AllocError> {
         *c = register.next();
     }
     flip(chips.as_mut_slice(), 0, lit);
-    let word = header_word(Part { chips: chips.as_slice(), place: 0 });
+    let word = header_word(Part {
+        chips: chips.as_slice(),
+        place: 0,
+    });
     Ok(word[0])
 }
 

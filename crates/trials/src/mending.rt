@@ -1,22 +1,22 @@
 // Words with spoiled octets, and each mender.
 use crate::coder::fill;
 use crate::count::Count;
+use elements::OctetElement;
 use menders::Full;
 use menders::FullMender;
 use menders::Single;
 use menders::SingleMender;
-use elements::OctetElement;
-use words::accept;
-use words::encode;
-use words::mend;
 use words::Change;
 use words::Mender;
 use words::Still;
 use words::StillMender;
 use words::Then;
 use words::ThenMender;
-use words::fault::WordFaultPartialEq;
 use words::WordFault;
+use words::accept;
+use words::encode;
+use words::fault::WordFaultPartialEq;
+use words::mend;
 
 // Fills a row with a message and its parity.
 fn code(word: &mut [u8]) {
@@ -35,7 +35,11 @@ fn code(word: &mut [u8]) {
 fn spoil(word: &mut [u8], spoiled: usize) {
     let size = word.len();
     for i in 0..spoiled {
-        let place = if i % 2 == 0 { i } else { size.saturating_sub(i) };
+        let place = if i % 2 == 0 {
+            i
+        } else {
+            size.saturating_sub(i)
+        };
         if place < size {
             word[place] ^= (17 + i % 64) as u8;
         }
@@ -48,7 +52,11 @@ fn mended<M: Mender>(mender: &mut M, spoiled: usize, room: &mut [u8], whole: &[u
     spoil(room, spoiled);
     let answer = mend(mender, room);
     let apart = elements::differences(room, whole);
-    if spoiled <= reach { answer == Ok(spoiled) && apart == 0 } else { answer.is_err() && apart == spoiled }
+    if spoiled <= reach {
+        answer == Ok(spoiled) && apart == 0
+    } else {
+        answer.is_err() && apart == spoiled
+    }
 }
 
 // All menders at one word's length and number of spoiled octets.
@@ -63,7 +71,15 @@ fn each(count: &mut Count, whole: &[u8], room: &mut [u8], spoiled: usize) {
     room.copy_from_slice(whole);
     count.note(mended(&mut Full, spoiled, room, whole));
     room.copy_from_slice(whole);
-    count.note(mended(&mut Then { first: Single, second: Full }, spoiled, room, whole));
+    count.note(mended(
+        &mut Then {
+            first: Single,
+            second: Full,
+        },
+        spoiled,
+        room,
+        whole,
+    ));
 }
 
 pub fn menders_table() -> Count {
@@ -89,7 +105,19 @@ pub fn causes() -> Count {
     count.note(accept(&word, &[good]).is_ok());
     count.note(accept(&word, &[]) == Err(WordFault::Nothing));
     count.note(accept(&word, &[good; 9]) == Err(WordFault::TooMany));
-    count.note(accept(&word, &[good, Change { place: 17, octet: 1 }]) == Err(WordFault::Outside));
+    count.note(
+        accept(
+            &word,
+            &[
+                good,
+                Change {
+                    place: 17,
+                    octet: 1,
+                },
+            ],
+        )
+            == Err(WordFault::Outside),
+    );
     count.note(accept(&word, &[good, good]) == Err(WordFault::Twice));
     count.note(accept(&word, &[good, Change { place: 4, octet: 0 }]) == Err(WordFault::Zero));
     count.note(accept(&word, &[Change { place: 4, octet: 5 }]) == Err(WordFault::NoCodeword));

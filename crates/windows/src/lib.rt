@@ -7,8 +7,8 @@ pub mod slicer;
 pub mod window;
 
 pub use chip::first_bad_chip;
-pub use opened::open_header;
 pub use opened::Opened;
+pub use opened::open_header;
 pub use sfd::read_code;
 pub use sfd::sfd_code;
 pub use slicer::body_word;

@@ -10,14 +10,14 @@ ghost use Rattle.format.specs.Sequences.{mixed, scrambler};
 ghost use Rattle.format.specs.Header.{hcs};
 ghost use Rattle.format.specs.Reading.{phy-read, mac-read, hcs-read};
 ghost use Rattle.windows.specs.Headers.{hcs-asked, header-right};
-use elements::differences;
 use elements::OctetElement;
-use format::header::unpack;
-use format::hcs::header_check;
-use format::phy::PhyDebug;
-use format::sequence::mix;
-use format::sequence::Register;
+use elements::differences;
 use format::Phy;
+use format::hcs::header_check;
+use format::header::unpack;
+use format::phy::PhyDebug;
+use format::sequence::Register;
+use format::sequence::mix;
 
 // A header's fields, and whether its check sequence is right.
 #[derive(Clone, Copy, Debug)]

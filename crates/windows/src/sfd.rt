@@ -4,8 +4,8 @@ ghost use Rattle.format.specs.Reading.{near as is-near, read-code, code-at};
 ghost use Rattle.windows.specs.Codes.{code-chips};
 use crate::codes::chips_of;
 use crate::window::Window;
-use elements::differences;
 use elements::OctetElement;
+use elements::differences;
 use format::Code;
 
 // Whether the chips differ from a code in at most 31 places.

@@ -9,8 +9,8 @@ ghost use Rattle.format.specs.Reading.{despread, payload-bit, payload-octet, wo
 ghost use Rattle.windows.specs.Slices.{sum-from, bits-from, Chip, masked};
 use crate::window::Part;
 use crate::window::Window;
-use format::sequence::Register;
 use format::Mode;
+use format::sequence::Register;
 
 // The sum of the 16 chips from the place on, with the sequence added; chips past the end count nothing.
 fn lit(chips: &[u8], place: usize, register: &mut Register) -> u32
@@ -78,12 +78,21 @@ fn payload_octet(window: Window<'_>, mode: Mode, j: usize) -> u8
 }
 
 // Writes body word `number`, from 0, of a body of `length` octets, and zeros behind it, and answers how many octets the word has.
-pub fn body_word(window: Window<'_>, mode: Mode, length: u16, number: u16, out: &mut [u8; 240]) -> usize
+pub fn body_word(
+    window: Window<'_>,
+    mode: Mode,
+    length: u16,
+    number: u16,
+    out: &mut [u8; 240],
+) -> usize
     ensures size { λ r. ⌜ r ≡ word-length length number ⌝ }
     ensures out { λ _. ⌜ now (out .exit) ≡ word-read mode length (masked (now (window .entry .chips))) number ++ replicate (240 - word-length length number) 0 ⌝ }
     ensures read { λ _. ⌜ (All Chip (now (window .entry .chips)) → now (out .exit) ≡ word-read mode length (now (window .entry .chips)) number ++ replicate (240 - word-length length number) 0) ⌝ }
 {
-    let size = (length as usize).saturating_sub(224 * number as usize).min(224) + 16;
+    let size = (length as usize)
+        .saturating_sub(224 * number as usize)
+        .min(224)
+        + 16;
     let first = 240 * number as usize;
     *out = [0; 240];
     for j in 0..size {

@@ -57,7 +57,10 @@ impl<'a> Window<'a> {
         if self.chips.len() < place + 4096 || self.chips.len() > 65536 {
             return Err(DoorFault::Window);
         }
-        Ok(Part { chips: &self.chips[place..place + 4096], place })
+        Ok(Part {
+            chips: &self.chips[place..place + 4096],
+            place,
+        })
     }
 
     // The data chips of a block, from 0, of a mode; none where the block is not wholly in the window, pilots too.
@@ -72,7 +75,10 @@ impl<'a> Window<'a> {
             return None;
         }
         let place = first + 512 * spread * number;
-        Some(Part { chips: &self.chips[place..place + 508 * spread], place })
+        Some(Part {
+            chips: &self.chips[place..place + 508 * spread],
+            place,
+        })
     }
 
     // The data chips of a block, from 0, of the mode with this number; none where the block is not wholly in the window, pilots too.

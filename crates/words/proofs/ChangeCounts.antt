@@ -87,7 +87,7 @@ changed-octets w [] h a = h
 changed-octets w (c ∷ cs) h a =
     changed-octets (set w (c .place) (bitXor (getD w (c .place) 0) (c .octet))) cs
     (⊎-elim
-      (λ (inner : c .place < length w). all-set Octet w (c .place) (bitXor (getD w (c .place) 0) (c .octet)) (xor-lt 8 (getD w (c .place) 0) (c .octet) (all-getD Octet w (c .place) 0 inner h) (a .0)) h)
-      (λ (past : length w ≤ c .place). subst (All Octet) (sym (set-past w (c .place) _ past)) h)
-      (cases-lt (c .place) (length w)))
+    (λ (inner : c .place < length w). all-set Octet w (c .place) (bitXor (getD w (c .place) 0) (c .octet)) (xor-lt 8 (getD w (c .place) 0) (c .octet) (all-getD Octet w (c .place) 0 inner h) (a .0)) h)
+    (λ (past : length w ≤ c .place). subst (All Octet) (sym (set-past w (c .place) _ past)) h)
+    (cases-lt (c .place) (length w)))
     (a .1)

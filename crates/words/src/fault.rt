@@ -65,7 +65,11 @@ impl CoderFault {
         ensures { λ r. ⌜ r ≡ coder-refusal self ⌝ }
     {
         match self {
-            CoderFault::Lengths => Refusal { number: 20, layer: Layer::WordCoder, place: 0 },
+            CoderFault::Lengths => Refusal {
+                number: 20,
+                layer: Layer::WordCoder,
+                place: 0,
+            },
         }
     }
 }

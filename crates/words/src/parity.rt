@@ -5,7 +5,25 @@ use elements::Check;
 use elements::OctetElement;
 
 // The product of x + alpha^i for i from 1 to 16, the highest coefficient first.
-const GENERATOR: [u8; 17] = [1, 118, 52, 103, 31, 104, 126, 187, 232, 17, 56, 183, 49, 100, 81, 44, 79];
+const GENERATOR: [u8; 17] = [
+    1,
+    118,
+    52,
+    103,
+    31,
+    104,
+    126,
+    187,
+    232,
+    17,
+    56,
+    183,
+    49,
+    100,
+    81,
+    44,
+    79,
+];
 
 pub struct Parity;
 

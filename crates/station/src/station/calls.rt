@@ -22,11 +22,22 @@ impl<M: Mender> Station<M> {
         ensures law { λ r. ⌜ ((calls : List Call) (last : Station M) → Runs (M·Mender .rule) r calls last → Law (M·Mender .rule) (M·Mender .reach mender) mender calls) ⌝ }
         ensures reads_back { λ r. ⌜ ((calls : List Call) (last : Station M) → Runs (M·Mender .rule) r calls last → Comes-back calls) ⌝ }
     {
-        Station { seed: 0, tally: Tally::new(), mender }
+        Station {
+            seed: 0,
+            tally: Tally::new(),
+            mender,
+        }
     }
 
     // Writes the frame of the arguments under the station's seed, which then rises by one; a build that is turned down leaves the seed.
-    pub fn build(&mut self, mode: u8, aggregation: bool, mac: &[u8], body: &mut [u8], chips: &mut [u8]) -> Result<Built, Fault>
+    pub fn build(
+        &mut self,
+        mode: u8,
+        aggregation: bool,
+        mac: &[u8],
+        body: &mut [u8],
+        chips: &mut [u8],
+    ) -> Result<Built, Fault>
         ensures { λ r. ⌜ Step (M·Mender .rule) (now (self .entry)) (building (record { mode = mode; aggregation = aggregation; mac = now (mac .entry); body = now (body .entry); chips = now (chips .entry); answer = r; body-after = now (body .exit); chips-after = now (chips .exit) })) (now (self .exit)) ⌝ }
     {
         let seed = self.seed;
@@ -43,7 +54,13 @@ impl<M: Mender> Station<M> {
     }
 
     // Reads a window of n channels: delivers its frame, or answers with the first row that applies.
-    pub fn read(&mut self, n: u8, window: &[u8], body: &mut [u8], mac: &mut [u8]) -> Result<Delivery, Fault>
+    pub fn read(
+        &mut self,
+        n: u8,
+        window: &[u8],
+        body: &mut [u8],
+        mac: &mut [u8],
+    ) -> Result<Delivery, Fault>
         ensures { λ r. ⌜ ((asks : List Asked) × Step (M·Mender .rule) (now (self .entry)) (reading (record { channels = n; window = now (window .entry); body = now (body .entry); mac = now (mac .entry); asks = asks; answer = r; body-after = now (body .exit); mac-after = now (mac .exit) })) (now (self .exit))) ⌝ }
     {
         let answer = receive(&mut self.mender, n, window, body, mac);
@@ -81,7 +98,11 @@ impl<M: Mender> Station<M> {
     pub fn close(self) -> M
         ensures { λ r. ⌜ r ≡ self .mender ⌝ }
     {
-        let Station { seed: _, tally: _, mender } = self;
+        let Station {
+            seed: _,
+            tally: _,
+            mender,
+        } = self;
         mender
     }
 }

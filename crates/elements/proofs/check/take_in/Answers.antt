@@ -30,9 +30,10 @@ loop-x-again g c =
     let long : length (g .C·Check .generator) ≡ length (c .loop-x .register) + 1 = omega (arith, size, g .C·Check·met .generates .long) in
     let step : c .absorb .last .register ≡ stepped o gen reg x = c .absorb .ensures ∙ ap (λ l. stepped o l reg x) (c .pre .2) in
     let more = check-more (g .Element·Element·met .laws) gen reg (drop (i + 1) msg) x some long (law .proper) (c .loop-x .inv .1)
-    (subst ok (sym (c .x-item .is)) (all-getD ok msg i x (c .loop-x-test .taken) (c .all-proper .ensures))) (all-drop ok (i + 1) msg (c .all-proper .ensures)) in
-    (ap (λ l. check o gen l (drop (i + 1) msg)) step ∙ more .0 ∙ ap (check o gen reg) (sym (drop-read msg i x (c .loop-x-test .taken) (c .x-item .is))) ∙ c .loop-x .inv .0,
-     subst (All ok) (sym step) (more .1))
+    (subst ok (sym (c .x-item .is)) (all-getD ok msg i x (c .loop-x-test .taken) (c .all-proper .ensures))) (all-drop ok (i + 1) msg (c .all-proper .ensures)) in (
+      ap (λ l. check o gen l (drop (i + 1) msg)) step ∙ more .0 ∙ ap (check o gen reg) (sym (drop-read msg i x (c .loop-x-test .taken) (c .x-item .is))) ∙ c .loop-x .inv .0,
+      subst (All ok) (sym step) (more .1),
+    )
 
 pub returns : need.returns
 returns g c =

@@ -6,10 +6,11 @@ use Rattle.station.proofs.Drives.{driven-next, driven-all, driven-runs, drives
 use Rattle.station.proofs.driver.drive.Needs as need
 
 pub loop-i-again : need.loop-i-again
-loop-i-again g c =
-    (driven-next (g .M·Mender .rule) (c .args .station .now) (c .loop-i .station) (c .obey .last .station) (c .args .orders .now) (c .loop-i .i) _ _ _ _ (c .loop-i .log) (c .obey .result)
-        (omega arith) (c .loop-i .inv .1 ∙ c .if-log-orders .left) (c .loop-i .inv .0) (c .obey .ensures),
-     length-set (c .loop-i .log) (c .loop-i .i) (c .obey .result) ∙ c .loop-i .inv .1)
+loop-i-again g c = (
+  driven-next (g .M·Mender .rule) (c .args .station .now) (c .loop-i .station) (c .obey .last .station) (c .args .orders .now) (c .loop-i .i) _ _ _ _ (c .loop-i .log) (c .obey .result)
+      (omega arith) (c .loop-i .inv .1 ∙ c .if-log-orders .left) (c .loop-i .inv .0) (c .obey .ensures),
+  length-set (c .loop-i .log) (c .loop-i .i) (c .obey .result) ∙ c .loop-i .inv .1,
+)
 
 pub returns : need.returns
 returns g c =

@@ -11,4 +11,4 @@ pub loop-c-again : need.loop-c-again
 loop-c-again c = inside-more (c .args .changes .now) (c .loop-c .c-index) (c .loop-c-test .taken) (c .args .length) (c .if-c-length .left) ∙ c .loop-c .inv
 
 pub returns : need.returns
-returns c = sym (at-drop-all (inside (c .args .length) ) (c .args .changes .now) (c .loop-c .c-index) (c .loop-c-test .left)) ∙ c .loop-c .inv
+returns c = sym (at-drop-all (inside (c .args .length)) (c .args .changes .now) (c .loop-c .c-index) (c .loop-c-test .left)) ∙ c .loop-c .inv

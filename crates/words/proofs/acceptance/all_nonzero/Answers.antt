@@ -11,4 +11,4 @@ pub loop-c-again : need.loop-c-again
 loop-c-again c = nonzero-more (c .args .changes .now) (c .loop-c .c-index) (c .loop-c-test .taken) (c .if-c-eq0 .left) ∙ c .loop-c .inv
 
 pub returns : need.returns
-returns c = sym (at-drop-all (nonzero ) (c .args .changes .now) (c .loop-c .c-index) (c .loop-c-test .left)) ∙ c .loop-c .inv
+returns c = sym (at-drop-all (nonzero) (c .args .changes .now) (c .loop-c .c-index) (c .loop-c-test .left)) ∙ c .loop-c .inv

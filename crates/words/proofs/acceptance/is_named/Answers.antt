@@ -11,4 +11,4 @@ pub loop-c-again : need.loop-c-again
 loop-c-again c = named-more (c .args .changes .now) (c .loop-c .c-index) (c .loop-c-test .taken) (c .args .place) (c .if-c-place .left) ∙ c .loop-c .inv
 
 pub returns : need.returns
-returns c = sym (at-drop-all (named (c .args .place) ) (c .args .changes .now) (c .loop-c .c-index) (c .loop-c-test .left)) ∙ c .loop-c .inv
+returns c = sym (at-drop-all (named (c .args .place)) (c .args .changes .now) (c .loop-c .c-index) (c .loop-c-test .left)) ∙ c .loop-c .inv

@@ -11,9 +11,10 @@ pub index-word-c-in-loop-c : need.index-word-c-in-loop-c
 index-word-c-in-loop-c c = omega (arith, inside-here (c .args .changes .now) (c .loop-c .c-index) (c .loop-c-test .taken) (length (c .args .word .now)) (c .loop-c .inv .1) .0)
 
 pub loop-c-again : need.loop-c-again
-loop-c-again c =
-    (changed-more (c .args .changes .now) (c .loop-c .c-index) (c .loop-c-test .taken) (c .loop-c .word) ∙ c .loop-c .inv .0,
-     inside-here (c .args .changes .now) (c .loop-c .c-index) (c .loop-c-test .taken) (length (c .args .word .now)) (c .loop-c .inv .1) .1)
+loop-c-again c = (
+  changed-more (c .args .changes .now) (c .loop-c .c-index) (c .loop-c-test .taken) (c .loop-c .word) ∙ c .loop-c .inv .0,
+  inside-here (c .args .changes .now) (c .loop-c .c-index) (c .loop-c-test .taken) (length (c .args .word .now)) (c .loop-c .inv .1) .1,
+)
 
 pub returns : need.returns
 returns c = sym (changed-none (c .loop-c .word) (c .args .changes .now) (c .loop-c .c-index) (c .loop-c-test .left)) ∙ c .loop-c .inv .0

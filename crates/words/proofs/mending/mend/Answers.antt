@@ -10,7 +10,7 @@ returns-in-Break-apply g c =
     let p = err-from-errBy (c .from-residual .result) (c .from-residual .ensures .1) in
     rw (p .1, p .2)
     (refuses (g .M·Mender .rule) (c .args .mender .now) (c .propose .last .self) (c .args .word .now) (c .apply .last .word) (c .propose .last .out) (c .in-Some .n)
-      (sym (c .if-is-codeword .ensures tt)) (c .in-Some .ensures tt .rule) (c .apply .ensures .word) _ (sym (c .in-Break-apply .ensures tt .answer)))
+    (sym (c .if-is-codeword .ensures tt)) (c .in-Some .ensures tt .rule) (c .apply .ensures .word) _ (sym (c .in-Break-apply .ensures tt .answer)))
 
 pub returns : need.returns
 returns g c =
