@@ -31,7 +31,7 @@ fn message_of(h: Phy, mac: &[u8]) -> [u8; 16]
 }
 
 // The header word: the message and its parity.
-pub fn word_of(h: Phy, mac: &[u8]) -> [u8; 32]
+pub(crate) fn word_of(h: Phy, mac: &[u8]) -> [u8; 32]
     requires { ⌜ length (now mac) ≡ 10 ⌝ }
     ensures { λ r. ⌜ r ≡ header-word h (now (mac .entry)) ⌝ }
 {
@@ -45,7 +45,7 @@ pub fn word_of(h: Phy, mac: &[u8]) -> [u8; 32]
 }
 
 // Writes the header word from a place on: each bit over 16 chips, with the spreader's sequence added.
-pub fn write_header(chips: &mut [u8], at: usize, word: &[u8; 32])
+pub(crate) fn write_header(chips: &mut [u8], at: usize, word: &[u8; 32])
     requires { ⌜ at + 4096 ≤ length (now chips) ⌝ }
     ensures { λ _. ⌜ now (chips .exit) ≡ paste (now (chips .entry)) at (header-chips (now (word .entry))) 4096 ⌝ }
 {

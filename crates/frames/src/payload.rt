@@ -85,7 +85,7 @@ fn write_blocks(chips: &mut [u8], at: usize, octets: &[u8; 2223], count: usize, 
 }
 
 // Writes the payload of a scrambled body from a place on; the stuff bits come from where the body left the sequence.
-pub fn write_payload(chips: &mut [u8], at: usize, mode: Mode, body: &[u8], behind: Register)
+pub(crate) fn write_payload(chips: &mut [u8], at: usize, mode: Mode, body: &[u8], behind: Register)
     requires { ⌜ (length (now body) ≤ 2048) × (at + 512 * row mode .spread * block-count (length (now body)) ≤ length (now chips)) ⌝ }
     ensures { λ _. ⌜ now (chips .exit) ≡ paste (now (chips .entry)) at (blocks (row mode .spread) (block-count (length (now (body .entry)))) (carried (now (body .entry)) (behind .bits))) (512 * row mode .spread * block-count (length (now (body .entry)))) ⌝ }
 {

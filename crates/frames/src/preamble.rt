@@ -51,7 +51,7 @@ fn write_groups(chips: &mut [u8], at: usize, signs: &[bool; 4], n: usize)
 }
 
 // Writes the preamble at the front.
-pub fn write_preamble(chips: &mut [u8], mode: Mode)
+pub(crate) fn write_preamble(chips: &mut [u8], mode: Mode)
     requires { ⌜ 2560 * row mode .channels ≤ length (now chips) ⌝ }
     ensures { λ _. ⌜ now (chips .exit) ≡ paste (now (chips .entry)) 0 (preamble mode) (2560 * row mode .channels) ⌝ }
 {

@@ -26,7 +26,7 @@ const UNITS: [[u8; 9]; 9] = [
 ];
 
 // What the equation comes to at the vector.
-pub fn dot(equation: &[u8], v: &[u8; 9]) -> u8
+pub(crate) fn dot(equation: &[u8], v: &[u8; 9]) -> u8
     requires { ⌜ length (now equation) ≤ 9 ⌝ }
     ensures { λ r. ⌜ r ≡ dot-of octets (now (equation .entry)) (now (v .entry)) ⌝ }
 {
@@ -104,7 +104,7 @@ fn reduce(rows: &mut [[u8; 9]; 9], syndromes: &[u8; 16], t: usize) -> usize
 }
 
 // A vector that locates the wrong places, if no more than t are wrong: its first t + 1 coordinates.
-pub fn locator(syndromes: &[u8; 16], t: usize) -> [u8; 9]
+pub(crate) fn locator(syndromes: &[u8; 16], t: usize) -> [u8; 9]
     requires { ⌜ t ≤ 8 ⌝ }
     ensures { λ r. ⌜ Locates (entries (now (syndromes .entry))) t (take (t + 1) r) ⌝ }
 {

@@ -30,7 +30,7 @@ fn candidates(word: &[u8], t: usize, out: &mut [Change; 16]) -> usize
 
 // Looks for the codeword in 1 to t places of the word: writes the difference to it, with blank changes behind, and answers how many changes it has.
 // Nothing, and a blank buffer, where there is no such codeword.
-pub fn nearest(word: &[u8], t: usize, out: &mut [Change; 16]) -> Option<usize>
+pub(crate) fn nearest(word: &[u8], t: usize, out: &mut [Change; 16]) -> Option<usize>
     requires { ⌜ t ≤ 8 ⌝ }
     ensures nearest { λ r. ⌜ Nearest t (now (word .entry)) (answer r (now (out .exit))) ⌝ }
     ensures written { λ r. ⌜ Written r (now (out .exit)) ⌝ }

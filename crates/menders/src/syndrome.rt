@@ -9,7 +9,7 @@ use elements::Element;
 use elements::OctetElement;
 
 // Alpha to the power of each place of the row.
-pub fn powers() -> [u8; 240]
+pub(crate) fn powers() -> [u8; 240]
     ensures { λ r. ⌜ ((k : ℕ) → k < 240 → getD r k 0 ≡ power k) ⌝ }
 {
     let mut row = [1u8; 240];
@@ -20,7 +20,7 @@ pub fn powers() -> [u8; 240]
 }
 
 // The polynomial's value at x, the highest coefficient first.
-pub fn high_value(row: &[u8], x: u8) -> u8
+pub(crate) fn high_value(row: &[u8], x: u8) -> u8
     ensures { λ r. ⌜ r ≡ horner octets 0 (now (row .entry)) x ⌝ }
 {
     let mut sum = 0u8;
@@ -31,7 +31,7 @@ pub fn high_value(row: &[u8], x: u8) -> u8
 }
 
 // The polynomial's value at x, the lowest coefficient first.
-pub fn low_value(row: &[u8], x: u8) -> u8
+pub(crate) fn low_value(row: &[u8], x: u8) -> u8
     ensures { λ r. ⌜ r ≡ evalLow octets (now (row .entry)) x ⌝ }
 {
     let mut sum = 0u8;
@@ -42,7 +42,7 @@ pub fn low_value(row: &[u8], x: u8) -> u8
 }
 
 // The word's values at alpha^1 to alpha^16.
-pub fn syndromes(word: &[u8], powers: &[u8; 240]) -> [u8; 16]
+pub(crate) fn syndromes(word: &[u8], powers: &[u8; 240]) -> [u8; 16]
     requires { ⌜ ((k : ℕ) → k < 240 → getD (now powers) k 0 ≡ power k) ⌝ }
     ensures { λ r. ⌜ ((k : ℕ) → k < 16 → getD r k 0 ≡ syndrome-of octets power (now (word .entry)) k) ⌝ }
 {

@@ -14,7 +14,7 @@ use elements::OctetElement;
 use words::Change;
 
 // Finds those of the first n powers of alpha at which the vector vanishes, the highest first, and answers how many.
-pub fn find_roots(v: &[u8], powers: &[u8; 240], n: usize, found: &mut [u8; 8]) -> usize
+pub(crate) fn find_roots(v: &[u8], powers: &[u8; 240], n: usize, found: &mut [u8; 8]) -> usize
     requires powers { ⌜ ((k : ℕ) → k < 240 → getD (now powers) k 0 ≡ power k) ⌝ }
     requires short { ⌜ n ≤ 240 ⌝ }
     requires few { ⌜ length (roots octets power (now v) n) ≤ 8 ⌝ }
@@ -88,7 +88,7 @@ fn correction(syndromes: &[u8; 16], v: &[u8], found: &[u8], y: u8) -> u8
 }
 
 // Writes what is wrong in a word of n octets as changes, in ascending place, and answers how many.
-pub fn collect(
+pub(crate) fn collect(
     syndromes: &[u8; 16],
     v: &[u8],
     found: &[u8],
