@@ -31,25 +31,26 @@ fn code(word: &mut [u8]) {
     tail.copy_from_slice(&parity);
 }
 
-// Spoils so many octets: the first, the last, and others between them.
-fn spoil(word: &mut [u8], spoiled: usize) {
+// Spoils so many octets, from a place on.
+fn spoil(word: &mut [u8], spoiled: usize, from: usize) {
     let size = word.len();
     for i in 0..spoiled {
-        let place = if i % 2 == 0 {
-            i
-        } else {
-            size.saturating_sub(i)
-        };
-        if place < size {
-            word[place] ^= (17 + i % 64) as u8;
+        if from < size && i < size - from {
+            word[from + i] ^= (17 + i % 64) as u8;
         }
     }
 }
 
 // Whether a mender of this reach makes of the spoiled word what it should: the codeword within its reach, else a refusal and the word as it was.
-fn mended<M: Mender>(mender: &mut M, spoiled: usize, room: &mut [u8], whole: &[u8]) -> bool {
+fn mended<M: Mender>(
+    mender: &mut M,
+    spoiled: usize,
+    from: usize,
+    room: &mut [u8],
+    whole: &[u8],
+) -> bool {
     let reach = mender.reach();
-    spoil(room, spoiled);
+    spoil(room, spoiled, from);
     let answer = mend(mender, room);
     let apart = elements::differences(room, whole);
     if spoiled <= reach {
@@ -59,17 +60,17 @@ fn mended<M: Mender>(mender: &mut M, spoiled: usize, room: &mut [u8], whole: &[u
     }
 }
 
-// All menders at one word's length and number of spoiled octets.
-fn each(count: &mut Count, whole: &[u8], room: &mut [u8], spoiled: usize) {
+// All menders at one word's length, number of spoiled octets and first place.
+fn each(count: &mut Count, whole: &[u8], room: &mut [u8], spoiled: usize, from: usize) {
     if room.len() != whole.len() {
         return;
     }
     room.copy_from_slice(whole);
-    count.note(mended(&mut Still {}, spoiled, room, whole));
+    count.note(mended(&mut Still {}, spoiled, from, room, whole));
     room.copy_from_slice(whole);
-    count.note(mended(&mut Single, spoiled, room, whole));
+    count.note(mended(&mut Single, spoiled, from, room, whole));
     room.copy_from_slice(whole);
-    count.note(mended(&mut Full, spoiled, room, whole));
+    count.note(mended(&mut Full, spoiled, from, room, whole));
     room.copy_from_slice(whole);
     count.note(mended(
         &mut Then {
@@ -77,9 +78,18 @@ fn each(count: &mut Count, whole: &[u8], room: &mut [u8], spoiled: usize) {
             second: Full,
         },
         spoiled,
+        from,
         room,
         whole,
     ));
+}
+
+// Spoiled octets from the first place, around the middle, and up to the last.
+fn places(count: &mut Count, whole: &[u8], room: &mut [u8], spoiled: usize) {
+    let spare = whole.len().saturating_sub(spoiled);
+    each(count, whole, room, spoiled, 0);
+    each(count, whole, room, spoiled, spare / 2);
+    each(count, whole, room, spoiled, spare);
 }
 
 pub fn menders_table() -> Count {
@@ -89,8 +99,8 @@ pub fn menders_table() -> Count {
     code(&mut short);
     code(&mut long);
     for spoiled in [0usize, 1, 2, 7, 8, 9] {
-        each(&mut count, &short, &mut [0u8; 17], spoiled);
-        each(&mut count, &long, &mut [0u8; 240], spoiled);
+        places(&mut count, &short, &mut [0u8; 17], spoiled);
+        places(&mut count, &long, &mut [0u8; 240], spoiled);
     }
     count
 }
