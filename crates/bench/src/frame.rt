@@ -46,7 +46,7 @@ fn show_parts(rt: &impl Print, window: Window<'_>) -> Result<(), AnyError> {
     Ok(())
 }
 
-pub fn show_frame(rt: &(impl Print + Alloc<A = Global>)) -> Result<(), AnyError> {
+pub(crate) fn show_frame(rt: &(impl Print + Alloc<A = Global>)) -> Result<(), AnyError> {
     let mut chips = vec![in rt.alloc(); 0u8; 50176]?;
     let mut body = *PAGE;
     println!(rt, "A frame")?;

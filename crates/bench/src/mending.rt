@@ -42,7 +42,7 @@ fn show_proposal<M: Mender>(
     Ok(())
 }
 
-pub fn show_mending(rt: &impl Print) -> Result<(), AnyError> {
+pub(crate) fn show_mending(rt: &impl Print) -> Result<(), AnyError> {
     println!(rt, "Menders")?;
     for count in [1usize, 2, 8, 9] {
         let mut word = page_word();

@@ -112,7 +112,7 @@ fn damage(chips: &mut [u8]) {
     }
 }
 
-pub fn show_session(rt: &(impl Print + Alloc<A = Global>)) -> Result<(), AnyError> {
+pub(crate) fn show_session(rt: &(impl Print + Alloc<A = Global>)) -> Result<(), AnyError> {
     let mut chips = vec![in rt.alloc(); 0u8; 50176]?;
     let mut station = Station::open(Then {
         first: Single,

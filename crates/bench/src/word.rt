@@ -14,7 +14,7 @@ fn answer(yes: bool) -> &'static str {
 }
 
 // The page with its parity behind it.
-pub fn page_word() -> [u8; 52] {
+pub(crate) fn page_word() -> [u8; 52] {
     let mut word = [0u8; 52];
     let mut parity = [0u8; 16];
     let _ = encode(PAGE, &mut parity);
@@ -23,7 +23,7 @@ pub fn page_word() -> [u8; 52] {
     word
 }
 
-pub fn show_word(rt: &impl Print) -> Result<(), AnyError> {
+pub(crate) fn show_word(rt: &impl Print) -> Result<(), AnyError> {
     let mut word = page_word();
     println!(rt, "A word")?;
     println!(rt, "  message   {}", Hex(PAGE))?;

@@ -12,7 +12,7 @@ const OF_LONGEST: &[u8; 16] = b"\xe6\xa5\x7d\xe9\x6b\xe8\x8c\x95\x57\xc8\x8a\x4f
 const OF_FIVE: &[u8; 16] = b"\x98\x5c\xfa\x90\x07\x99\xbe\xeb\x1a\x92\xb5\xdd\x58\x23\xe6\x45";
 
 // A message of octets seven apart, from 3 on.
-pub fn fill(octets: &mut [u8]) {
+pub(crate) fn fill(octets: &mut [u8]) {
     for i in 0..octets.len() {
         octets[i] = ((7 * (i % 256) + 3) % 256) as u8;
     }
@@ -40,7 +40,7 @@ fn refused(message: &[u8], parity: &mut [u8]) -> bool {
     answer.is_err() && kept
 }
 
-pub fn coder() -> Count {
+pub(crate) fn coder() -> Count {
     let mut count = Count::new();
     let mut row = [0u8; 225];
     fill(&mut row);

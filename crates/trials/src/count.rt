@@ -7,11 +7,11 @@ pub struct Count {
 }
 
 impl Count {
-    pub fn new() -> Count {
+    pub(crate) fn new() -> Count {
         Count { right: 0, wrong: 0 }
     }
 
-    pub fn note(&mut self, right: bool) {
+    pub(crate) fn note(&mut self, right: bool) {
         if right {
             self.right = self.right.saturating_add(1);
         } else {

@@ -52,7 +52,7 @@ fn comes_back<M: Mender>(
 }
 
 // Every mode at the lengths where words and blocks begin and end.
-pub fn round_trips(heap: Global) -> Result<Count, AllocError> {
+pub(crate) fn round_trips(heap: Global) -> Result<Count, AllocError> {
     let mut count = Count::new();
     let mut station = Station::open(Still {});
     for (i, channels) in [1u8, 2, 2, 3, 3, 4, 4].iter().enumerate() {
@@ -111,7 +111,7 @@ fn pairs(heap: Global) -> Result<u8, AllocError> {
     Ok(word[0])
 }
 
-pub fn edges(heap: Global) -> Result<Count, AllocError> {
+pub(crate) fn edges(heap: Global) -> Result<Count, AllocError> {
     let mut count = Count::new();
     count.note(wrong_chips(heap, 31)? == None);
     count.note(wrong_chips(heap, 32)? == Some(Fault::Preamble(PreambleFault::Unreadable(2))));

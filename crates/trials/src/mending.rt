@@ -92,7 +92,7 @@ fn places(count: &mut Count, whole: &[u8], room: &mut [u8], spoiled: usize) {
     each(count, whole, room, spoiled, spare);
 }
 
-pub fn menders_table() -> Count {
+pub(crate) fn menders_table() -> Count {
     let mut count = Count::new();
     let mut short = [0u8; 17];
     let mut long = [0u8; 240];
@@ -106,7 +106,7 @@ pub fn menders_table() -> Count {
 }
 
 // Hostile proposals, one for each cause.
-pub fn causes() -> Count {
+pub(crate) fn causes() -> Count {
     let mut count = Count::new();
     let mut word = [0u8; 17];
     code(&mut word);
