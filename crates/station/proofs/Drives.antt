@@ -1,7 +1,7 @@
 -- Orders one after the other are a run.
-use mathlib.Core.Path.{_≡_, refl, sym, ap, subst, _∙_}
+use mathlib.Core.Path.{_≡_, refl, sym, ap, ap₂, subst, _∙_}
 use mathlib.Core.Bool.{Bool, true}
-use mathlib.Core.List.{List, [], _∷_, _++_}
+use mathlib.Core.List.{List, [], _∷_, _++_, map}
 use Prim.Native.Nat.{ℕ, suc, _+_, _<_, _≤_}
 use native.Mathlib.Omega.{arith}
 use lib.Dec.{eqb}
@@ -14,7 +14,7 @@ use Rattle.station.specs.declared.order.Order.{Order}
 use Rattle.station.specs.declared.order.Order.the-variants.{Build, Read, Delivered, Refused}
 use Rattle.station.specs.declared.station.Station.{Station}
 use Rattle.station.specs.Runs.{Call, build, read, ask-mode, ask-refusal, Step, Runs}
-use Rattle.station.specs.Orders.{Buffers, Obeyed, Driven, Drives}
+use Rattle.station.specs.Orders.{Buffers, Obeyed, Driven, Drives, answer-of}
 
 module _ {M : Type 0} (rule : Rule M) where
   -- one order more
@@ -32,21 +32,21 @@ module _ {M : Type 0} (rule : Rule M) where
   driven-push s t u (p ∷ os) o b c d log a h step =
       (h .0, h .1, h .2, h .3 ++ (a ∷ []), h .4, driven-push (h .2) t u os o (h .1) c d (h .3) a (h .5) step, ap (λ l. l ++ (a ∷ [])) (h .6))
 
-  made : (s u : Station M) (o : Order) (b c : Buffers) (a : Answer) → Obeyed rule s o b a c u → (k : Call) × Step rule s k u
+  made : (s u : Station M) (o : Order) (b c : Buffers) (a : Answer) → Obeyed rule s o b a c u → (k : Call) × Step rule s k u × (answer-of k ≡ a)
   made s u (Build mode aggregation) b c a h =
-      (build (record { mode = mode; aggregation = aggregation; mac = b .mac; body = b .body; chips = b .chips; answer = h .0; body-after = c .body; chips-after = c .chips }), h .3)
+      (build (record { mode = mode; aggregation = aggregation; mac = b .mac; body = b .body; chips = b .chips; answer = h .0; body-after = c .body; chips-after = c .chips }), h .3, sym (h .1))
   made s u (Read n) b c a h =
-      (read (record { channels = n; window = b .chips; body = b .body; mac = b .mac; asks = h .3 .0; answer = h .0; body-after = c .body; mac-after = c .mac }), h .3 .1)
-  made s u (Delivered number) b c a h = (ask-mode number (h .0), h .3)
-  made s u (Refused number) b c a h = (ask-refusal number (h .0), h .3)
+      (read (record { channels = n; window = b .chips; body = b .body; mac = b .mac; asks = h .3 .0; answer = h .0; body-after = c .body; mac-after = c .mac }), h .3 .1, sym (h .1))
+  made s u (Delivered number) b c a h = (ask-mode number (h .0), h .3, sym (h .1))
+  made s u (Refused number) b c a h = (ask-refusal number (h .0), h .3, sym (h .1))
 
   pub driven-runs : (s t : Station M) (os : List Order) (b c : Buffers) (log : List Answer) → Driven rule s os b log c t
-      → (calls : List Call) × Runs rule s calls t × (length calls ≡ length os)
-  driven-runs s t [] b c log h = ([], h .2, refl)
+      → (calls : List Call) × Runs rule s calls t × (map answer-of calls ≡ log)
+  driven-runs s t [] b c log h = ([], h .2, sym (h .0))
   driven-runs s t (o ∷ os) b c log h =
       let k = made s (h .2) o b (h .1) (h .0) (h .4) in
       let rest = driven-runs (h .2) t os (h .1) c (h .3) (h .5) in
-      (k .0 ∷ rest .0, (h .2, k .1, rest .1), ap suc (rest .2))
+      (k .0 ∷ rest .0, (h .2, k .1, rest .1), ap₂ _∷_ (k .2) (rest .2) ∙ sym (h .6))
 
   -- the first i orders are done, and then the next one
   pub driven-next : (s t u : Station M) (os : List Order) (i : ℕ) (other : Order) (b c d : Buffers) (log : List Answer) (a : Answer) → i < length os → length log ≡ length os

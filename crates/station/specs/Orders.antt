@@ -18,7 +18,7 @@ use Rattle.station.specs.declared.order.Order.{Order}
 use Rattle.station.specs.declared.order.Order.the-variants.{Build, Read, Delivered, Refused}
 use Rattle.station.specs.declared.station.Station.{Station}
 use Rattle.station.specs.declared.tally.Row.{Row}
-use Rattle.station.specs.Runs.{build, read, ask-mode, ask-refusal, Step}
+use Rattle.station.specs.Runs.{Call, build, read, ask-mode, ask-refusal, Step}
 
 -- the buffers that the calls share
 pub record Buffers : Type 0 where
@@ -47,3 +47,10 @@ Driven {M} rule s (o ∷ os) b log c t =
 abbrev pub Drives : {M : Type 0} → Rule M → Bool → Station M → List Order → Buffers → List Answer → Option ℕ → Buffers → List Answer → Station M → Type 0
 Drives rule true s os b before r c log t = (r ≡ Some (length os)) × Driven rule s os b log c t
 Drives rule false s os b before r c log t = (r ≡ None) × (c ≡ b) × (log ≡ before) × (t ≡ s)
+
+-- what a call answered
+abbrev pub answer-of : Call → Answer
+answer-of (build b) = answer.Built (b .answer)
+answer-of (read r) = answer.Read (r .answer)
+answer-of (ask-mode number a) = answer.Delivered a
+answer-of (ask-refusal number a) = answer.Refused a

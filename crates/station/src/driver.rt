@@ -1,11 +1,11 @@
 // Driving a station: a list of calls, one after the other.
 ghost use mathlib.Core.Path.{_≡_};
-ghost use mathlib.Core.List.{List};
+ghost use mathlib.Core.List.{List, map};
 ghost use lib.Dec.{eqb};
 ghost use lib.ListN.{length};
 ghost use Rattle.std.specs.declared.option.Option.the-variants.{Some, None};
 ghost use Rattle.station.specs.Runs.{Call, Runs};
-ghost use Rattle.station.specs.Orders.{Obeyed, Drives};
+ghost use Rattle.station.specs.Orders.{Obeyed, Drives, answer-of};
 use crate::order::Answer;
 use crate::order::Order;
 use crate::station::Station;
@@ -45,7 +45,7 @@ pub fn drive<M: Mender>(
     log: &mut [Answer],
 ) -> Option<usize>
     ensures driven { λ r. ⌜ Drives (M·Mender .rule) (eqb (length (now (log .entry))) (length (now (orders .entry)))) (now (station .entry)) (now (orders .entry)) (record { mac = now (mac .entry); body = now (body .entry); chips = now (chips .entry) }) (now (log .entry)) r (record { mac = now (mac .exit); body = now (body .exit); chips = now (chips .exit) }) (now (log .exit)) (now (station .exit)) ⌝ }
-    ensures run { λ r. ⌜ (r ≡ Some (length (now (orders .entry))) → ((calls : List Call) × Runs (M·Mender .rule) (now (station .entry)) calls (now (station .exit)) × (length calls ≡ length (now (orders .entry))))) ⌝ }
+    ensures run { λ r. ⌜ (r ≡ Some (length (now (orders .entry))) → ((calls : List Call) × Runs (M·Mender .rule) (now (station .entry)) calls (now (station .exit)) × (map answer-of calls ≡ now (log .exit)))) ⌝ }
 {
     if log.len() != orders.len() {
         return None;

@@ -16,8 +16,10 @@ pub enum Order {
     Refused(u8),
 }
 
+// What a call answered.
 #[derive(Clone, Copy)]
 pub enum Answer {
+    // No call was made yet: what a log is filled with before its calls.
     Nothing,
     Built(Result<Built, Fault>),
     Read(Result<Delivery, Fault>),

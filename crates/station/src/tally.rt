@@ -4,7 +4,7 @@ ghost use Prim.Native.Nat.{_≤_};
 ghost use Rattle.station.specs.Tallies.{no-tally, delivered, refused, mode-count, refusal-count};
 use format::Mode;
 
-// What was delivered in one mode.
+// What was delivered in one mode: how many windows, and how many octets were mended in them.
 #[derive(Clone, Copy, PartialEq, Eq, Debug)]
 pub struct Row {
     pub windows: u32,
