@@ -1,9 +1,11 @@
 // Trials over tables: what the calls do at boundaries and on damage, counted by kind.
+mod chips;
 mod coder;
 mod count;
 mod frames;
 mod mending;
 
+use chips::chips;
 use coder::coder;
 use count::Count;
 use frames::edges;
@@ -23,7 +25,8 @@ fn run(rt: &(impl Print + Alloc<A = Global>)) -> Result<(), AnyError> {
     show(rt, "menders", menders_table())?;
     show(rt, "causes", causes())?;
     show(rt, "round trips", round_trips(rt.alloc())?)?;
-    show(rt, "edges", edges(rt.alloc())?)
+    show(rt, "edges", edges(rt.alloc())?)?;
+    show(rt, "chips", chips(rt.alloc())?)
 }
 
 fn main(rt: LibcRuntime) -> Result<(), AnyError> {
