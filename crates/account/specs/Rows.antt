@@ -1,4 +1,4 @@
--- The rows of refusals that need no mender: which applies first.
+-- The rows of docs/REFUSALS.md that need no mender: which applies first.
 use mathlib.Core.Bool.{Bool, true, false, cond, _&&_, _||_, not}
 use mathlib.Core.List.{List, [], _∷_, _++_}
 use Prim.Native.Nat.{ℕ, _+_}

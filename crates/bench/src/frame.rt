@@ -26,14 +26,15 @@ fn show_parts(rt: &impl Print, window: Window<'_>) -> Result<(), AnyError> {
     };
     let opened = open_header(&header_word(part));
     let mut word = [0u8; 240];
-    let size = body_word(window, mode, 36, 0, &mut word);
+    let length = (opened.phy.length & 0xffff) as u16;
+    let size = body_word(window, mode, length, 0, &mut word);
     println!(
         rt,
         "  read      mode {}, seed {}, length {}, {} chips",
         mode.number(),
         opened.phy.seed,
         opened.phy.length,
-        frame_length(mode, 36)
+        frame_length(mode, length)
     )?;
     println!(
         rt,

@@ -1,4 +1,4 @@
-// A station that builds a frame, reads it back with damage, and answers questions.
+// A station that builds two frames, reads the second back with damage, and answers questions.
 use crate::frame::MAC;
 use crate::hex::Hex;
 use crate::hex::HexDisplay;
@@ -101,7 +101,7 @@ fn show_tally<M: Mender>(rt: &impl Print, station: &Station<M>) -> Result<(), An
     Ok(())
 }
 
-// Spoils a chip of SFD2, eight chips of a header bit, and octets of the body's word.
+// Spoils a chip of SFD2, nine chips of a header bit, and a chip in each of six octets of the body's word.
 fn damage(chips: &mut [u8]) {
     spoil(chips, 4096 + 200, 1);
     for k in 0..9usize {

@@ -17,7 +17,7 @@ pub enum DoorFault {
     Room,
     // The channels are not 1 to 4.
     Channels,
-    // A buffer to work in has another length than is asked for.
+    // The body buffer has under 2,048 octets, or the MAC header buffer has not 10.
     Buffers,
     // The window is too short or too long.
     Window,

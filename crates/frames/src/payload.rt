@@ -40,7 +40,7 @@ fn write_words(octets: &mut [u8], body: &[u8])
 }
 
 // The octets whose bits the blocks carry: the words, and behind them zeros scrambled from where the body left the sequence.
-// The zeros go on to the array's end; the blocks take as many of their bits as they want for stuff bits.
+// 2,223 octets hold the 35 · 508 bits of the longest payload. The zeros go on to the array's end; the blocks take as many of their bits as they want for stuff bits.
 fn octets_of(body: &[u8], behind: Register) -> [u8; 2223]
     requires { ⌜ length (now body) ≤ 2048 ⌝ }
     ensures { λ r. ⌜ r ≡ coded (word-count (length (now (body .entry)))) (now (body .entry)) ++ mixed (behind .bits) (replicate (2223 - coded-octets (length (now (body .entry)))) 0) ⌝ }

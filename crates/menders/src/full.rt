@@ -4,6 +4,7 @@ use crate::search::nearest;
 use words::Change;
 use words::Mender;
 
+// Reach 8: proposes the difference to the codeword that is 1 to 8 places away, if there is one.
 #[derive(Drop)]
 pub struct Full;
 

@@ -28,7 +28,7 @@ fn candidates(word: &[u8], t: usize, out: &mut [Change; 16]) -> usize
     collect(&sums, v, &found[0..count], &table, word.len(), out)
 }
 
-// Looks for the codeword in 1 to t places of the word: writes the difference to it, with blank changes behind, and answers how many changes it has.
+// Looks for the codeword that differs from the word in 1 to t places: writes the difference to it, with blank changes behind, and answers how many changes it has.
 // Nothing, and a blank buffer, where there is no such codeword.
 pub(crate) fn nearest(word: &[u8], t: usize, out: &mut [Change; 16]) -> Option<usize>
     requires { ⌜ t ≤ 8 ⌝ }

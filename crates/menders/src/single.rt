@@ -4,6 +4,7 @@ use crate::search::nearest;
 use words::Change;
 use words::Mender;
 
+// Reach 1: proposes the difference to the codeword that is one place away, if there is one.
 #[derive(Drop)]
 pub struct Single;
 

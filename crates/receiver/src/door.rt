@@ -5,7 +5,7 @@ ghost use Rattle.receiver.specs.Answers.{admitted};
 use format::DoorFault;
 use windows::first_bad_chip;
 
-// Whether a read passes the door; else the first row that applies.
+// Whether a read passes the door; else the first row of docs/REFUSALS.md that applies.
 pub fn admit(n: u8, chips: &[u8], body: &[u8], mac: &[u8]) -> Result<(), DoorFault>
     ensures { λ r. ⌜ r ≡ admitted (door-row n (now (chips .entry)) (now (body .entry)) (now (mac .entry))) ⌝ }
 {

@@ -15,7 +15,7 @@ fn near(chips: &[u8], code: Code) -> bool
     differences(chips, chips_of(code)) <= 31
 }
 
-// The code that differs from the chips in at most 31 places, if there is one.
+// The first of a, −a, b and −b that differs from the chips in at most 31 places, up to the shorter's end. Of 128 chips there is at most one.
 pub fn read_code(chips: &[u8]) -> Option<Code>
     ensures { λ r. ⌜ r ≡ read-code (now (chips .entry)) ⌝ }
 {

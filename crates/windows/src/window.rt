@@ -11,6 +11,7 @@ ghost use Rattle.windows.specs.Parts.{header-row, Header-at, block-row, block-
 use format::DoorFault;
 use format::Mode;
 
+// Chips from where a frame begins.
 #[derive(Clone, Copy)]
 pub struct Window<'a> {
     chips: &'a [u8],
