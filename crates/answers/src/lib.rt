@@ -1,4 +1,6 @@
 // What the calls of a script answer, and how an answer is written.
+#![tactic(auto)]
+
 pub mod answer;
 pub mod texts;
 

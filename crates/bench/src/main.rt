@@ -1,4 +1,6 @@
 // The bench: frames for a person to look at. Without an argument it pulls one frame through the whole chain and says how it is used.
+#![tactic(auto)]
+
 mod capture;
 mod captured;
 mod chain;

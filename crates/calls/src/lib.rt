@@ -1,4 +1,6 @@
 // The calls of the script language, and how a line says one.
+#![tactic(auto)]
+
 pub mod call;
 pub mod reader;
 mod word;

@@ -1,4 +1,6 @@
 // Captures: text files with one window of chips a line.
+#![tactic(auto)]
+
 pub mod fault;
 pub mod line;
 pub mod seed;

@@ -1,4 +1,6 @@
 // Stored calls with the answers that a second implementation gave: makes each call, and counts by kind how many answers agree.
+#![tactic(auto)]
+
 mod count;
 mod difference;
 mod kinds;

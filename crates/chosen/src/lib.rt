@@ -1,4 +1,6 @@
 // Menders that are chosen while a program runs: one of the known ones, or several of them one after the other.
+#![tactic(auto)]
+
 pub mod leaf;
 pub mod naming;
 pub mod pile;

@@ -1,4 +1,6 @@
 // The code that words are written in: what is proved of it.
+#![tactic(auto)]
+
 ghost use Rattle.std.specs.Prelude.{◌≡◌};
 ghost use Rattle.coding.specs.Codewords.{ApartBy, OneWithin};
 

@@ -1,4 +1,6 @@
 // What builds and reads answer: deliveries, and faults with their refusals.
+#![tactic(auto)]
+
 pub mod delivery;
 pub mod fault;
 pub mod refusals;

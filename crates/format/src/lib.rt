@@ -1,4 +1,6 @@
 // The format of frames: modes, codes, sequences and headers, and what is proved of them.
+#![tactic(auto)]
+
 pub mod code;
 mod codes;
 pub mod fault;

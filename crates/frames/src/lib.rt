@@ -1,4 +1,6 @@
 // Frames as chips: writing them.
+#![tactic(auto)]
+
 mod header;
 mod payload;
 mod pieces;

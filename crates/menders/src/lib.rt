@@ -1,4 +1,6 @@
 // Menders that look for the codeword next to a word.
+#![tactic(auto)]
+
 pub mod full;
 mod kernel;
 mod search;

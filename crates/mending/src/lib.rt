@@ -1,4 +1,6 @@
 // Menders, which propose changes to a word, and mending a word with any of them.
+#![tactic(auto)]
+
 pub mod mender;
 pub mod mending;
 

@@ -1,4 +1,6 @@
 // Rows of elements as polynomials: differences, division, and the checks that are computed by division.
+#![tactic(auto)]
+
 pub mod check;
 pub mod difference;
 pub mod polynomial;

@@ -1,4 +1,6 @@
 // Receiving: one window read with any mender, without a tally.
+#![tactic(auto)]
+
 pub mod body;
 pub mod door;
 pub mod frame;

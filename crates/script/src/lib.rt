@@ -1,4 +1,6 @@
 // A desk that carries out the calls of a script, one line after the other.
+#![tactic(auto)]
+
 pub mod desk;
 mod part_calls;
 mod station_calls;

@@ -1,4 +1,6 @@
 // The slicer: from the chips of a window's parts to the octets of words, and what a header word says.
+#![tactic(auto)]
+
 pub mod opened;
 pub mod slicer;
 

@@ -1,4 +1,6 @@
 // What the words of a line say: numbers, octets, chips and changes; and how a line is cut into its words.
+#![tactic(auto)]
+
 mod changes;
 mod chips;
 mod list;

@@ -1,4 +1,6 @@
 // The frame station: it builds frames as chips, reads windows back and keeps a tally.
+#![tactic(auto)]
+
 pub mod driver;
 pub mod order;
 pub mod station;

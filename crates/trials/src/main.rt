@@ -1,4 +1,6 @@
 // Trials over tables: what the calls do at boundaries and on damage, counted by kind.
+#![tactic(auto)]
+
 mod chips;
 mod coder;
 mod count;

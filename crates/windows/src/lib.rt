@@ -1,4 +1,6 @@
 // Windows: chips that are lent, the parts in which a frame's pieces stand, and the codes that are read from them.
+#![tactic(auto)]
+
 pub mod chip;
 pub mod sfd;
 pub mod window;

@@ -1,4 +1,6 @@
 // Words: messages with their parity, and changes to them.
+#![tactic(auto)]
+
 pub mod acceptance;
 pub mod change;
 pub mod coder;

@@ -1,4 +1,6 @@
 // How numbers, octets, chips and changes are written behind a text.
+#![tactic(auto)]
+
 mod changes;
 mod chips;
 mod number;

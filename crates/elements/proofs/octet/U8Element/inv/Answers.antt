@@ -13,5 +13,5 @@ returns-else-self-eq0 c =
     let a = c.args.self in
     let l = c.logarithm.result in
     let whole : l + (255 - l) ≡ 255 = omega arith in
-    inverse_is a c.power-of.result c.ranges.self.fits c.power-of.type-inv c.if-self-eq0.false
-    (ap₂ product (sym c.logarithm.ensures.1) c.power-of.ensures ∙ product_power l (255 - l) ∙ ap power whole ∙ power_255)
+    inverse_is a c.power_of.result c.ranges.self.fits c.power_of.type_inv c.if-self-eq0.false
+    (ap₂ product (sym c.logarithm.ensures.1) c.power_of.ensures ∙ product_power l (255 - l) ∙ ap power whole ∙ power_255)

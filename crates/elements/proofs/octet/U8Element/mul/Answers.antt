@@ -16,5 +16,5 @@ returns-then-other-eq0 c =
 
 pub returns-else-other-eq0 : goal.returns-else-other-eq0
 returns-else-other-eq0 c =
-    c.power-of.ensures ∙ sym (product_power c.logarithm.result c.logarithm-else-other-eq0.result)
+    c.power_of.ensures ∙ sym (product_power c.logarithm.result c.logarithm-else-other-eq0.result)
     ∙ ap₂ product c.logarithm.ensures.1 c.logarithm-else-other-eq0.ensures.1
