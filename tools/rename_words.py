@@ -5,7 +5,7 @@ usage: python3 tools/rename_words.py [FOLDER]      (the repository's top, by def
 
 It was run once, right after the toolchain's port.py. The table beside it, words.tsv, has a line for each name: old, new.
 In .antt files a name is turned wherever it stands but in comments; in .rt files where it stands outside comments, strings and characters.
-What follows one of the check's own records (`c.`, `w.`, `l.`, `goal.`) is left alone: those names are made by the check.
+In answers and invariants, what follows one of the check's own records (`c.`, `w.`, `l.`, `goal.`) is left alone: those names are made by the check.
 """
 
 import os
@@ -15,6 +15,7 @@ import sys
 HERE = os.path.dirname(os.path.realpath(__file__))
 TOKEN = re.compile(r"[A-Za-z0-9_'\-₀-₉]+")
 MADE = re.compile(r"(^|[^A-Za-z0-9_'\-.])(c|w|l|goal)\.$")
+ANSWERS = ("Answers.antt", "Invariants.antt", "Proof.antt")
 COMMENT = re.compile(r"(^|\s)--(\s.*|$)")
 APART = re.compile(r"//[^\n]*|b?\"(?:[^\"\\]|\\.)*\"|b?'(?:[^'\\\n]|\\[^\n]+?)'", re.S)
 
@@ -24,25 +25,25 @@ def table():
         return dict(line.rstrip("\n").split("\t") for line in f)
 
 
-def turned(text, names):
+def turned(text, names, made=False):
     def one(m):
-        if MADE.search(text[max(0, m.start() - 8):m.start()]):
+        if made and MADE.search(text[max(0, m.start() - 8):m.start()]):
             return m.group(0)
         return names.get(m.group(0), m.group(0))
 
     return TOKEN.sub(one, text)
 
 
-def turned_antt(text, names):
+def turned_antt(text, names, made):
     out = []
     for line in text.split("\n"):
         m = COMMENT.search(line)
         at = m.start() if m else len(line)
-        out.append(turned(line[:at], names) + line[at:])
+        out.append(turned(line[:at], names, made) + line[at:])
     return "\n".join(out)
 
 
-def turned_rt(text, names):
+def turned_rt(text, names, _made):
     out, at = [], 0
     for m in APART.finditer(text):
         out.append(turned(text[at:m.start()], names))
@@ -64,7 +65,7 @@ def main():
             path = os.path.join(folder, name)
             with open(path, encoding="utf-8") as f:
                 old = f.read()
-            new = turn(old, names)
+            new = turn(old, names, name in ANSWERS)
             if new != old:
                 with open(path, "w", encoding="utf-8") as f:
                     f.write(new)

@@ -54,12 +54,12 @@ module _ (f : Frame) (l : Lawful f) where
       let h = own_header f in
       let c : check_right h ≡ true = eq-eqb _ 0 (differing_same _ _ back.check) in
       let z : eqb (phy_read h).reserved 0 ≡ true = eq-eqb _ 0 (ap (λ (p : Phy). p.reserved) back.phy) in
-      let s : leb (phy_read h).length 2048 ≡ true = le-leb _ 2048 (rw back.phy l.body-short) in
+      let s : leb (phy_read h).length 2048 ≡ true = le-leb _ 2048 (rw back.phy l.body_short) in
       rw (c, z, s)
 
   module _ (reach n : ℕ) (w : List ℕ) (p : Fits reach n f w) where
     header_near : Near reach (header_read n w) (own_header f)
-    header_near = record { coded = back.header_code; long = length_header_read n w ∙ sym (length_header_word (phy_of f) f.mac l.mac-long); near = p.header }
+    header_near = record { coded = back.header_code; long = length_header_read n w ∙ sym (length_header_word (phy_of f) f.mac l.mac_long); near = p.header }
 
     words_near : AllZip (Near reach) (words_read f.mode (length f.body) w) (own_words f)
     words_near =

@@ -102,7 +102,7 @@ message_vanishes m h i below =
 pub codeword_parts : (w : List ℕ) → Codeword w → (m : List ℕ) × All Octet m × (w ≡ m ++ parity m)
 codeword_parts w c =
     let n = length w - 16 in
-    (take n w, All-take Octet n w c.octets-all, sym (take-append-drop n w) ∙ ap (λ r. take n w ++ r) c.ends)
+    (take n w, All-take Octet n w c.octets_all, sym (take-append-drop n w) ∙ ap (λ r. take n w ++ r) c.ends)
 
 pub codeword_made : (m : List ℕ) → All Octet m → 1 ≤ length m → length m ≤ 224 → Codeword (m ++ parity m)
 codeword_made m h some few =

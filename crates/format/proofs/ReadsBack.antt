@@ -13,7 +13,7 @@ use Rattle.format.proofs.PayloadBack.{word_back, word_codeword, body_back}
 use Rattle.format.proofs.CodesApart.{code_back}
 
 pub short_length : (f : Frame) → Lawful f → length f.body < 2 ^ 23
-short_length f l = omega (arith, l.body-short)
+short_length f l = omega (arith, l.body_short)
 
 pub frames_read_back : FramesReadBack
 frames_read_back f rest l =
@@ -21,13 +21,13 @@ frames_read_back f rest l =
     let short = short_length f l in
     record {
       codes = code_back f rest;
-      header = header_back f rest l.mac-long l.mac-octets;
-      words = word_back f rest l.mac-long l.body-octets;
-      header_code = header_codeword h f.mac l.mac-long l.mac-octets;
-      word_code = word_codeword f l.body-octets;
-      phy = phy_back h f.mac l.mac-long l.seed-fits short (omega arith);
-      mac = mac_back h f.mac l.mac-long l.seed-fits short (omega arith);
-      check = hcs_back h f.mac l.mac-long l.seed-fits short (omega arith);
+      header = header_back f rest l.mac_long l.mac_octets;
+      words = word_back f rest l.mac_long l.body_octets;
+      header_code = header_codeword h f.mac l.mac_long l.mac_octets;
+      word_code = word_codeword f l.body_octets;
+      phy = phy_back h f.mac l.mac_long l.seed_fits short (omega arith);
+      mac = mac_back h f.mac l.mac_long l.seed_fits short (omega arith);
+      check = hcs_back h f.mac l.mac_long l.seed_fits short (omega arith);
       body = body_back f;
     }
 
@@ -44,7 +44,7 @@ fits_own r f rest l =
     let back = frames_read_back f rest l in
     record {
       channels = refl;
-      long = omega (arith, length-append (frame_chips f) rest, length_frame_chips f l.mac-long);
+      long = omega (arith, length-append (frame_chips f) rest, length_frame_chips f l.mac_long);
       codes = λ k h. omega (arith, differing_same _ _ (back.codes k h));
       header = omega (arith, differing_same _ _ back.header);
       words = λ k h. omega (arith, differing_same _ _ (back.words k h));

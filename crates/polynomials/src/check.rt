@@ -37,8 +37,8 @@ pub trait Check {
 
 // Fills the row with the generator's coefficients from the first on.
 fn load_generator<C: Check>(row: &mut [C::Element])
-    requires { length row.old ≡ length generator }
-    ensures { row.new ≡ generator }
+    requires { length row.old ≡ length C.generator }
+    ensures { row.new ≡ C.generator }
 {
     for i in 0..row.len() {
         row[i] = C::generator(i);
@@ -46,8 +46,8 @@ fn load_generator<C: Check>(row: &mut [C::Element])
 }
 
 fn load_preset<C: Check>(row: &mut [C::Element])
-    requires { length row.old ≡ length preset }
-    ensures { row.new ≡ preset }
+    requires { length row.old ≡ length C.preset }
+    ensures { row.new ≡ C.preset }
 {
     for i in 0..row.len() {
         row[i] = C::preset(i);
@@ -57,7 +57,7 @@ fn load_preset<C: Check>(row: &mut [C::Element])
 // Lays the register and the next element out as a dividend of one step: the element is added to the first place, and a zero stands last.
 fn lay_out<E: Element>(row: &mut [E], register: &[E], x: E)
     requires { (0 < length register.now) × (length row.old ≡ length register.now + 1) }
-    ensures { row.new ≡ laid_out ops register.now x }
+    ensures { row.new ≡ laid_out E.ops register.now x }
 {
     for (i, r) in register.iter().enumerate() {
         row[i] = *r;
@@ -69,7 +69,7 @@ fn lay_out<E: Element>(row: &mut [E], register: &[E], x: E)
 // Takes one element more of a message into the register, by a division of one step.
 fn absorb<E: Element>(register: &mut [E], x: E, generator: &[E], row: &mut [E])
     requires { (0 < length register.old) × (length row.old ≡ length register.old + 1) × (length generator.now ≡ length register.old + 1) }
-    ensures { register.new ≡ stepped ops generator.now register.old x }
+    ensures { register.new ≡ stepped E.ops generator.now register.old x }
 {
     lay_out(row, register, x);
     let _ = remainder(row, generator);
@@ -78,7 +78,7 @@ fn absorb<E: Element>(register: &mut [E], x: E, generator: &[E], row: &mut [E])
 
 // Sets each place of the row to zero.
 fn wipe<E: Element>(row: &mut [E])
-    ensures { row.new ≡ replicate (length row.old) ops.zero }
+    ensures { row.new ≡ replicate (length row.old) E.ops.zero }
 {
     for i in 0..row.len() {
         row[i] = E::zero();
@@ -92,8 +92,8 @@ fn take_in<C: Check>(
     row: &mut [C::Element],
     divisor: &[C::Element],
 )
-    requires { (register.old ≡ preset) × (length row.old ≡ width + 1) × (divisor.now ≡ generator) }
-    ensures { register.new ≡ check C.Element.Element.ops generator preset message.now }
+    requires { (register.old ≡ C.preset) × (length row.old ≡ C.width + 1) × (divisor.now ≡ C.generator) }
+    ensures { register.new ≡ check C.Element.Element.ops C.generator C.preset message.now }
 {
     all_proper(message);
     for x in message {
@@ -109,11 +109,11 @@ pub fn checksum<C: Check>(
     row: &mut [C::Element],
     divisor: &mut [C::Element],
 ) -> Option<usize>
-    ensures answer { result ≡ (if room width out.old row.old divisor.old then Some width else None) }
-    ensures out { out.new ≡ (if room width out.old row.old divisor.old then check C.Element.Element.ops generator preset message.now else out.old) }
-    ensures row { row.new ≡ (if room width out.old row.old divisor.old then replicate (width + 1) C.Element.Element.ops.zero else row.old) }
-    ensures divisor { divisor.new ≡ (if room width out.old row.old divisor.old then generator else divisor.old) }
-    ensures remains { result ≡ Some width → Checks C.Element.Element.ops generator preset message.now out.new }
+    ensures answer { result ≡ (if room C.width out.old row.old divisor.old then Some C.width else None) }
+    ensures out { out.new ≡ (if room C.width out.old row.old divisor.old then check C.Element.Element.ops C.generator C.preset message.now else out.old) }
+    ensures row { row.new ≡ (if room C.width out.old row.old divisor.old then replicate (C.width + 1) C.Element.Element.ops.zero else row.old) }
+    ensures divisor { divisor.new ≡ (if room C.width out.old row.old divisor.old then C.generator else divisor.old) }
+    ensures remains { result ≡ Some C.width → Checks C.Element.Element.ops C.generator C.preset message.now out.new }
 {
     let degree = C::width();
     if out.len() != degree || row.len() != degree + 1 || divisor.len() != degree + 1 {

@@ -6,7 +6,7 @@ use elements::Element;
 
 // In how many places the two rows differ, up to the end of the shorter.
 pub fn differences<E: Element>(a: &[E], b: &[E]) -> usize
-    ensures { result ≡ differing ops a.now b.now }
+    ensures { result ≡ differing E.ops a.now b.now }
 {
     let mut n = 0;
     for (i, x) in a.iter().enumerate() {

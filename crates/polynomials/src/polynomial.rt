@@ -8,7 +8,7 @@ use elements::Element;
 // Takes f times the row `by` from the row, place by place from the first on.
 fn take_multiple<E: Element>(row: &mut [E], f: E, by: &[E])
     requires { length by.now ≤ length row.old }
-    ensures { row.new ≡ less ops f by.now row.old }
+    ensures { row.new ≡ less E.ops f by.now row.old }
 {
     for (j, g) in by.iter().enumerate() {
         row[j] = row[j].add(f.mul(*g).neg());
@@ -18,9 +18,9 @@ fn take_multiple<E: Element>(row: &mut [E], f: E, by: &[E])
 // Divides the row by the divisor: leaves the quotient in its place and then the remainder, and answers where the remainder begins.
 // None, with nothing written, if the divisor is empty or its highest coefficient is zero.
 pub fn remainder<E: Element>(row: &mut [E], divisor: &[E]) -> Option<usize>
-    ensures answer { result ≡ (division ops divisor.now row.old).0 }
-    ensures row { row.new ≡ (division ops divisor.now row.old).1 }
-    ensures exact { All ok divisor.now → All ok row.old → Left ops divisor.now row.old result row.new }
+    ensures answer { result ≡ (division E.ops divisor.now row.old).0 }
+    ensures row { row.new ≡ (division E.ops divisor.now row.old).1 }
+    ensures exact { All E.ok divisor.now → All E.ok row.old → Left E.ops divisor.now row.old result row.new }
 {
     let [lead, rest @ ..] = divisor else {
         return None;

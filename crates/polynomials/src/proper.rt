@@ -5,7 +5,7 @@ use elements::Element;
 
 // Does nothing: each value of the row is proper.
 pub(crate) fn all_proper<E: Element>(row: &[E])
-    ensures { All ok row.now }
+    ensures { All E.ok row.now }
 {
     for x in row {
         x.proper();

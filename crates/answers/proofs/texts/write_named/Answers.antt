@@ -7,5 +7,5 @@ pub returns : goal.returns
 returns c =
     let start : List ℕ = string_bytes c.args.out.now in
     let first : List ℕ = string_bytes c.put.new.out in
-    let second : List ℕ = string_bytes c.write-octets.new.out in
-    after start first second (c.args.name.now ++ codes " ") (octets_written c.args.octets.now) c.in-ok-put.ensures c.in-ok-write-octets.ensures
+    let second : List ℕ = string_bytes c.write_octets.new.out in
+    after start first second (c.args.name.now ++ codes " ") (octets_written c.args.octets.now) c.in_ok-put.ensures c.in_ok-write_octets.ensures

@@ -7,5 +7,5 @@ pub returns : goal.returns
 returns c =
     let start : List ℕ = string_bytes c.args.out.now in
     let first : List ℕ = string_bytes c.put.new.out in
-    let second : List ℕ = string_bytes c.write-chips.new.out in
-    after start first second (codes "part place=" ++ (decimal c.args.place ++ (codes " chips=" ++ (decimal (length c.args.chips.now) ++ codes " ")))) (chips_written c.args.chips.now) c.in-ok-put.ensures c.in-ok-write-chips.ensures
+    let second : List ℕ = string_bytes c.write_chips.new.out in
+    after start first second (codes "part place=" ++ (decimal c.args.place ++ (codes " chips=" ++ (decimal (length c.args.chips.now) ++ codes " ")))) (chips_written c.args.chips.now) c.in_ok-put.ensures c.in_ok-write_chips.ensures

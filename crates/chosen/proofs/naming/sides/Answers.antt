@@ -14,5 +14,5 @@ cut t u p h e q =
 
 pub returns : goal.returns
 returns c =
-    cut c.args.text.now c.in-ok-between.between.now c.in-ok-place.place
-    c.in-ok-between.ensures.0 c.in-ok-between.ensures.1 (sym c.in-ok-place.ensures.place)
+    cut c.args.text.now c.in_ok-between.between.now c.in_ok-place.place
+    c.in_ok-between.ensures.0 c.in_ok-between.ensures.1 (sym c.in_ok-place.ensures.place)

@@ -11,6 +11,6 @@ returns c =
     let os = c.args.octets.now in
     let fits : eqb (length c.args.room.now) (8 * length c.args.octets.now) ≡ true =
     eq-eqb (length c.args.room.now) (8 * length c.args.octets.now) (omega arith) in
-    let bits = c.checksum.ensures.out ∙ ap (check bit_ops hcs_generator (replicate 16 true)) c.lay-bits.ensures in
-    let whole = hcs_from os c.checksum.new.out c.inverted-octet.result c.inverted-octet-2.result bits c.inverted-octet.ensures c.inverted-octet-2.ensures in
-    record { answer = ap Some whole ∙ sym (cond-true _ _ _ fits); room = c.lay-bits.ensures ∙ sym (cond-true _ _ _ fits) }
+    let bits = c.checksum.ensures.out ∙ ap (check bit_ops hcs_generator (replicate 16 true)) c.lay_bits.ensures in
+    let whole = hcs_from os c.checksum.new.out c.inverted_octet.result c.inverted_octet-2.result bits c.inverted_octet.ensures c.inverted_octet-2.ensures in
+    record { answer = ap Some whole ∙ sym (cond-true _ _ _ fits); room = c.lay_bits.ensures ∙ sym (cond-true _ _ _ fits) }

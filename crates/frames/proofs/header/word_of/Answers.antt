@@ -8,8 +8,8 @@ use Rattle.frames.proofs.header.word_of.Goals as goal
 pub returns : goal.returns
 unfolding header_word
 returns c =
-    let message = c.message-of-message.result in
-    let same = c.message-of-message.ensures in
+    let message = c.message_of-message.result in
+    let same = c.message_of-message.ensures in
     word_done message _ c.encode.new.parity _ c.put.new.row c.put-2.new.row refl
     (ap length same ∙ length_header_message c.args.h.seed (phy_octets c.args.h) c.args.mac.now (length_phy_octets c.args.h) c.requires)
     c.encode.ensures.parity c.put.ensures c.put-2.ensures

@@ -8,5 +8,5 @@ pub returns : goal.returns
 returns c =
     let body = c.args.body.now in
     let count = word_count (length body) in
-    stuffed _ (coded count body) c.write-words.new.octets c.mix.new.octets 2223 (coded_octets (length body)) c.args.behind.bits refl
-    (sym (length_coded count body (words_hold (length body)))) (omega arith) c.write-words.ensures c.mix.ensures.octets
+    stuffed _ (coded count body) c.write_words.new.octets c.mix.new.octets 2223 (coded_octets (length body)) c.args.behind.bits refl
+    (sym (length_coded count body (words_hold (length body)))) (omega arith) c.write_words.ensures c.mix.ensures.octets

@@ -11,8 +11,8 @@ returns c =
     let chips = c.args.chips.now in
     let at = c.args.at in
     let body = c.args.body.now in
-    let bits = line c.octets-of-octets.result in
+    let bits = line c.octets_of-octets.result in
     let n = (row c.args.mode).spread in
-    c.write-blocks.ensures
-    ∙ ap₂ (λ s k. paste chips at (blocks s k bits) (512 * s * k)) c.spread.ensures c.block-count.ensures
-    ∙ ap (λ l. paste chips at l (512 * n * block_count (length body))) (blocks_carried n 2223 c.args.behind.bits body c.octets-of-octets.result (omega arith) c.octets-of-octets.ensures)
+    c.write_blocks.ensures
+    ∙ ap₂ (λ s k. paste chips at (blocks s k bits) (512 * s * k)) c.spread.ensures c.block_count.ensures
+    ∙ ap (λ l. paste chips at l (512 * n * block_count (length body))) (blocks_carried n 2223 c.args.behind.bits body c.octets_of-octets.result (omega arith) c.octets_of-octets.ensures)

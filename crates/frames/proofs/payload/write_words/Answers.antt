@@ -10,8 +10,8 @@ loop-k-init c = paste_none c.args.octets.now 0 []
 
 pub loop-k-preserved : goal.loop-k-preserved
 loop-k-preserved c =
-    words_more c.args.octets.now c.loop-k.octets c.write-word.new.octets c.args.body.now c.loop-k.k c.min-end.result (omega arith) c.min-end.ensures
-    c.loop-k.invariant c.write-word.ensures
+    words_more c.args.octets.now c.loop-k.octets c.write_word.new.octets c.args.body.now c.loop-k.k c.min-end.result (omega arith) c.min-end.ensures
+    c.loop-k.invariant c.write_word.ensures
 
 pub returns : goal.returns
 returns c = words_all c.args.octets.now c.loop-k.octets c.args.body.now c.loop-k.k (omega arith) c.loop-k.invariant

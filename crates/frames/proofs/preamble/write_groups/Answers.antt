@@ -15,5 +15,5 @@ loop-i-preserved c =
     let i = c.loop-i.i in
     let codes = all_signed c.args.signs.now in
     let four : 128 * length c.args.signs.now ≡ 512 = omega arith in
-    copies_step c.args.chips.now row c.write-codes.new.chips codes c.args.at 512 i (length_all_signed c.args.signs.now ∙ four) (omega arith) c.loop-i.invariant
-    (c.write-codes.ensures ∙ ap (paste row (c.args.at + 512 * i) codes) four)
+    copies_step c.args.chips.now row c.write_codes.new.chips codes c.args.at 512 i (length_all_signed c.args.signs.now ∙ four) (omega arith) c.loop-i.invariant
+    (c.write_codes.ensures ∙ ap (paste row (c.args.at + 512 * i) codes) four)

@@ -9,5 +9,5 @@ pub loop-i-preserved : goal.loop-i-preserved
 loop-i-preserved c =
     let row = c.loop-i.chips in
     let i = c.loop-i.i in
-    copies_step c.args.chips.now row c.write-code.new.chips code_a 0 128 i length_code_a (omega arith) c.loop-i.invariant
-    (c.write-code.ensures ∙ ap (λ p. paste row p code_a 128) (sym (zero-add (128 * i))))
+    copies_step c.args.chips.now row c.write_code.new.chips code_a 0 128 i length_code_a (omega arith) c.loop-i.invariant
+    (c.write_code.ensures ∙ ap (λ p. paste row p code_a 128) (sym (zero-add (128 * i))))

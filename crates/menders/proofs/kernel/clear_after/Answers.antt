@@ -12,9 +12,9 @@ loop-i-preserved c =
     let i = c.loop-i.i in
     let scaled : c.mul-c.result ≡ product (dot octets r (get_or rows i [])) (inverse (dot octets r pivot)) =
     c.mul-c.ensures ∙ ap₂ product c.dot-in-loop-i.ensures (c.inv-unit.ensures ∙ ap inverse c.dot.ensures) in (
-      length-set rows (i - 1) c.plus-multiple.result ∙ c.loop-i.invariant.0,
-      clear_more r pivot rows i c.args.count c.plus-multiple.result (omega arith) (omega arith) (omega arith)
-          (c.plus-multiple.ensures ∙ ap (λ m. add_mul octets m (get_or rows i []) pivot) scaled)
+      length-set rows (i - 1) c.plus_multiple.result ∙ c.loop-i.invariant.0,
+      clear_more r pivot rows i c.args.count c.plus_multiple.result (omega arith) (omega arith) (omega arith)
+          (c.plus_multiple.ensures ∙ ap (λ m. add_mul octets m (get_or rows i []) pivot) scaled)
           ∙ c.loop-i.invariant.1,
     )
 

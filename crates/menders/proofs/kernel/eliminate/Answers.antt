@@ -13,14 +13,14 @@ returns-then-p-count c =
     record {
       fewer = omega arith;
       rows = sym (octets_eliminate_none r (take c.args.count rows)
-          (subst (λ n. All (λ v. dot octets r v ≡ 0) (take n rows)) c.if-p-count.true c.first-unsolved-p.ensures.solved));
+          (subst (λ n. All (λ v. dot octets r v ≡ 0) (take n rows)) c.if-p-count.true c.first_unsolved-p.ensures.solved));
     }
 
 pub returns : goal.returns
 returns c =
-    let p = c.first-unsolved-p.result in
+    let p = c.first_unsolved-p.result in
     record {
       fewer = omega arith;
       rows = eliminate_row c.args.equation.now c.args.rows.now _ p c.args.count (omega arith) (omega arith)
-          c.first-unsolved-p.ensures.solved (c.first-unsolved-p.ensures.unsolved (omega arith)) c.clear-after.ensures;
+          c.first_unsolved-p.ensures.solved (c.first_unsolved-p.ensures.unsolved (omega arith)) c.clear_after.ensures;
     }

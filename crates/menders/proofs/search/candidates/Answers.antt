@@ -15,8 +15,8 @@ part_locates s t vector l = let same : t + 1 ≡ t + 1 - 0 = omega arith in subs
 few_located : (s : ℕ → ℕ) (t n : ℕ) (v : List ℕ) → Locates s t v → n ≤ 240 → length (roots octets power v n) ≤ t
 few_located s t n v l short = roots_few t v n l.long l.proper l.some (omega arith)
 
-pub find-roots-count-requires : goal.find-roots-count-requires
-find-roots-count-requires c =
+pub find_roots-count-requires : goal.find_roots-count-requires
+find_roots-count-requires c =
     let s = entries c.syndromes-sums.result in
     let t = c.args.t in
     let few = few_located s t (length c.args.word.now) _ (part_locates s t c.locator-vector.result c.locator-vector.ensures) c.requires.0 in
@@ -33,7 +33,7 @@ collect-requires c =
       powers = c.powers-table.ensures;
       short = c.requires.0;
       found = simp length-take (omega arith);
-      few = omega (arith, repairs_few s v (take (c.find-roots-count.result - 0) c.find-roots-count.new.found) n n);
+      few = omega (arith, repairs_few s v (take (c.find_roots-count.result - 0) c.find_roots-count.new.found) n n);
     }
 
 pub returns : goal.returns
@@ -47,10 +47,10 @@ returns c =
     let σ = syndrome octets power w in
     let agree = c.syndromes-sums.ensures in
     let ys = roots octets power v n in
-    let all : c.find-roots-count.result - 0 ≡ c.find-roots-count.result = omega arith in
+    let all : c.find_roots-count.result - 0 ≡ c.find_roots-count.result = omega arith in
     let few = few_located s t n v l c.requires.0 in
-    let found : take (c.find-roots-count.result - 0) c.find-roots-count.new.found ≡ ys =
-    ap (λ k. take k c.find-roots-count.new.found) all ∙ c.find-roots-count.ensures.found in
+    let found : take (c.find_roots-count.result - 0) c.find_roots-count.new.found ≡ ys =
+    ap (λ k. take k c.find_roots-count.new.found) all ∙ c.find_roots-count.ensures.found in
     record {
       few = c.collect.ensures.few;
       changes = record {

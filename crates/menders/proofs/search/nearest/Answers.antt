@@ -9,17 +9,17 @@ use Rattle.menders.proofs.Nearness.{ok_sound, proposed_found, proposed_accepted,
 use Rattle.menders.proofs.search.nearest.Goals as goal
 use Rattle.menders.proofs.search.nearest.Goals.{else-count-t-via-then-count-t+else-is-ok, else-count-t-via-else-count-t}
 
-pub returns-then-is-ok : goal.returns-then-is-ok
-returns-then-is-ok c =
+pub returns-then-is_ok : goal.returns-then-is_ok
+returns-then-is_ok c =
     let w = c.args.word.now in
     let n = c.candidates-count.result in
     let out = c.candidates-count.new.out in
     let all : c.candidates-count.result - 0 ≡ c.candidates-count.result = omega arith in
     let good : sound (fault_of w (take n out)) ≡ true =
     ap (λ k. sound (fault_of w (take k out))) (sym all) ∙ sym (ok_sound (fault_of w (take (n - 0) out))) ∙ sym (ap is_ok c.accept.ensures)
-    ∙ sym c.is-ok.ensures.value ∙ c.if-is-ok.true in
+    ∙ sym c.is_ok.ensures.value ∙ c.if-is_ok.true in
     record {
-      nearest = proposed_found c.args.t w (take n out) c.candidates-count.ensures.changes (All-from_get_or Octet w 0 (λ i _. (c.type-inv.word i).fits))
+      nearest = proposed_found c.args.t w (take n out) c.candidates-count.ensures.changes (All-from_get_or Octet w 0 (λ i _. (c.type_inv.word i).fits))
           (omega (arith, length-take-le c.candidates-count.result c.candidates-count.new.out (omega arith))) good;
       written = (c.candidates-count.ensures.few, c.candidates-count.ensures.rest ∙ drop-replicate n 16 blank);
     }
@@ -30,11 +30,11 @@ returns c =
     let n = c.candidates-count.result in
     let out = c.candidates-count.new.out in
     let P = c.candidates-count.ensures.changes in
-    let H = All-from_get_or Octet w 0 (λ i _. (c.type-inv.word i).fits) in
+    let H = All-from_get_or Octet w 0 (λ i _. (c.type_inv.word i).fits) in
     let all : c.candidates-count.result - 0 ≡ c.candidates-count.result = omega arith in
     record {
       nearest = λ d code long some near. elim c.else-count-t.branch [
-        | else-count-t-via-then-count-t+else-is-ok v ↦ both_ways v.is_ok.result v.if-is-ok.false
+        | else-count-t-via-then-count-t+else-is-ok v ↦ both_ways v.is_ok.result v.if-is_ok.false
             (v.is_ok.ensures.value ∙ ap is_ok v.accept.ensures ∙ ok_sound (fault_of w (take (n - 0) out)) ∙ ap (λ k. sound (fault_of w (take k out))) all
             ∙ proposed_accepted c.args.t w (take n out) P H c.requires d code long some near)
         | else-count-t-via-else-count-t v ↦ omega (

@@ -9,6 +9,6 @@ pub loop-k-preserved : goal.loop-k-preserved
 loop-k-preserved c =
     let k = c.loop-k.k in
     let w = c.args.word.now in
-    let e : c.high-value.result ≡ syndrome octets power w k =
-    c.high-value.ensures ∙ ap (horner octets 0 w) (c.requires (k + 1) (omega arith) ∙ ap power (add-one k)) in
-    (length-set c.loop-k.row k c.high-value.result ∙ c.loop-k.invariant.0, rw e (fill_by_more (syndrome octets power w) c.loop-k.row k 0 (omega arith) c.loop-k.invariant.1))
+    let e : c.high_value.result ≡ syndrome octets power w k =
+    c.high_value.ensures ∙ ap (horner octets 0 w) (c.requires (k + 1) (omega arith) ∙ ap power (add-one k)) in
+    (length-set c.loop-k.row k c.high_value.result ∙ c.loop-k.invariant.0, rw e (fill_by_more (syndrome octets power w) c.loop-k.row k 0 (omega arith) c.loop-k.invariant.1))

@@ -20,9 +20,9 @@ pub loop-i-preserved-then-z-y : goal.loop-i-preserved-then-z-y
 loop-i-preserved-then-z-y c =
     let found = c.args.found.now in
     let i = c.loop-i.i in (
-      c.times-root.array_long,
+      c.times_root.array_long,
       omega arith,
-      c.times-root.ensures ∙ ap (times_root octets (get_or found (i - 1) 0) 0) c.loop-i.invariant.2
+      c.times_root.ensures ∙ ap (times_root octets (get_or found (i - 1) 0) 0) c.loop-i.invariant.2
           ∙ sym (ap (from_roots octets) (other_found c.args.y found i c.loop-i-test.true c.loop-i.auto.i c.if-z-y.true)),
     )
 

@@ -3,11 +3,11 @@ use Rattle.std.proofs.lemmas.List.{take_rest}
 use Rattle.polynomials.specs.Division.{division}
 use Rattle.polynomials.proofs.check.absorb.Goals as goal
 
-pub copy-from-slice-requires : goal.copy-from-slice-requires
-copy-from-slice-requires g c = simp (length-take, length-drop) (omega arith)
+pub copy_from_slice-requires : goal.copy_from_slice-requires
+copy_from_slice-requires g c = simp (length-take, length-drop) (omega arith)
 
 pub returns : goal.returns
 returns g c =
-    c.copy-from-slice.ensures.after
+    c.copy_from_slice.ensures.after
     ∙ take_rest c.remainder.new.row 1
-    ∙ ap (drop 1) (c.remainder.ensures.row ∙ ap (λ row. (division g.row.E-Element.ops c.args.generator.now row).1) c.lay-out.ensures)
+    ∙ ap (drop 1) (c.remainder.ensures.row ∙ ap (λ row. (division g.E.Element.ops c.args.generator.now row).1) c.lay_out.ensures)

@@ -15,12 +15,12 @@ returns g c =
     let d_fits : length c.args.divisor.now ≡ g.C.Check.width + 1 = omega arith in
     let fits : room w out row divisor ≡ true =
     and_from _ _ (eq-eqb (length out) w o_fits) (and_from _ _ (eq-eqb (length row) (w + 1) r_fits) (eq-eqb (length divisor) (w + 1) d_fits)) in
-    let same : length c.take-in.new.row ≡ g.C.Check.width + 1 = omega arith in
+    let same : length c.take_in.new.row ≡ g.C.Check.width + 1 = omega arith in
     record {
       answer = ap Some c.width-degree.ensures ∙ sym (cond-true _ _ _ fits);
-      out = c.take-in.ensures ∙ sym (cond-true _ _ _ fits);
-      row = c.wipe.ensures ∙ ap (λ n. replicate n g.row.C-Element-Element.ops.zero) same ∙ sym (cond-true _ _ _ fits);
-      divisor = c.load-generator.ensures ∙ sym (cond-true _ _ _ fits);
-      remains = λ _. subst (Checks g.row.C-Element-Element.ops g.C.Check.generator g.C.Check.preset c.args.message.now) (sym c.take-in.ensures)
-          (check_remains g.met.C.Element.Element.laws w g.C.Check.generator g.C.Check.preset c.args.message.now g.met.C.Check.generates c.all-proper.ensures);
+      out = c.take_in.ensures ∙ sym (cond-true _ _ _ fits);
+      row = c.wipe.ensures ∙ ap (λ n. replicate n g.C.Element.Element.ops.zero) same ∙ sym (cond-true _ _ _ fits);
+      divisor = c.load_generator.ensures ∙ sym (cond-true _ _ _ fits);
+      remains = λ _. subst (Checks g.C.Element.Element.ops g.C.Check.generator g.C.Check.preset c.args.message.now) (sym c.take_in.ensures)
+          (check_remains g.met.C.Element.Element.laws w g.C.Check.generator g.C.Check.preset c.args.message.now g.met.C.Check.generates c.all_proper.ensures);
     }

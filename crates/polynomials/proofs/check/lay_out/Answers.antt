@@ -10,6 +10,6 @@ loop-i-preserved g c =
 pub returns : goal.returns
 returns g c =
     let all : c.loop-i.i ≡ length c.args.register.now = omega arith in
-    laid_is g.row.E-Element.ops c.loop-i.row c.args.register.now c.args.x c.index-row-0.result c.add.result c.zero.result
+    laid_is g.E.Element.ops c.loop-i.row c.args.register.now c.args.x c.index-row-0.result c.add.result c.zero.result
     (omega arith) (omega arith) (ap (λ n. take n c.loop-i.row) (sym all) ∙ c.loop-i.invariant ∙ take_all c.loop-i.i c.args.register.now (omega arith))
     c.index-row-0.is c.add.ensures c.zero.ensures

@@ -5,6 +5,6 @@ use Rattle.polynomials.proofs.check.take_in.Given as goal
 
 abbrev pub invariant-loop-x : goal.invariant-loop-x
 invariant-loop-x g l =
-    let o = g.row.C-Element-Element.ops in
+    let o = g.C.Element.Element.ops in
     let gen = g.C.Check.generator in
-    (check o gen l.register (drop l.x-index l.message) ≡ check o gen g.C.Check.preset l.message) × All g.row.C-Element-Element.ok l.register
+    (check o gen l.register (drop l.x-index l.message) ≡ check o gen g.C.Check.preset l.message) × All g.C.Element.Element.ok l.register

@@ -6,7 +6,7 @@ use Rattle.polynomials.proofs.difference.differences.Goals as goal
 
 pub loop-i-preserved : goal.loop-i-preserved
 loop-i-preserved g c =
-    let o = g.row.E-Element.ops in
+    let o = g.E.Element.ops in
     let a = c.args.a.now in
     let b = c.args.b.now in
     let i = c.loop-i.i in
@@ -23,5 +23,5 @@ loop-i-preserved g c =
 
 pub returns : goal.returns
 returns g c =
-    let done = ap (λ l. differing g.row.E-Element.ops l (drop c.loop-i.i c.args.b.now)) (drop_all c.loop-i.i c.args.a.now c.loop-i-test.false) in
+    let done = ap (λ l. differing g.E.Element.ops l (drop c.loop-i.i c.args.b.now)) (drop_all c.loop-i.i c.args.a.now c.loop-i-test.false) in
     omega (arith, done, c.loop-i.invariant.1)

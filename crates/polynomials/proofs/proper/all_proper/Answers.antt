@@ -6,8 +6,8 @@ use Rattle.polynomials.proofs.proper.all_proper.Goals as goal
 
 pub loop-x-preserved : goal.loop-x-preserved
 loop-x-preserved g c =
-    let ok = g.row.E-Element.ok in
+    let ok = g.E.Element.ok in
     All-more ok c.args.row.now c.loop-x.x-index c.x-item.result c.loop-x-test.true c.loop-x.invariant (subst ok c.x-item.is c.proper.ensures)
 
 pub returns : goal.returns
-returns g c = subst (All g.row.E-Element.ok) (take_all c.loop-x.x-index c.args.row.now c.loop-x-test.false) c.loop-x.invariant
+returns g c = subst (All g.E.Element.ok) (take_all c.loop-x.x-index c.args.row.now c.loop-x-test.false) c.loop-x.invariant

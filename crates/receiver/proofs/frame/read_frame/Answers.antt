@@ -8,52 +8,52 @@ use Rattle.receiver.proofs.frame.read_frame.Given as given
 use Rattle.receiver.proofs.frame.read_frame.Goals as goal
 use Rattle.receiver.proofs.frame.read_frame.Goals.{In-ok-head}
 
-pub returns-in-err-mode : goal.returns-in-err-mode
-returns-in-err-mode g c =
-    let p = err_from_is_err_and c.from-residual.result c.from-residual.ensures.1 in
+pub returns-in_err-mode : goal.returns-in_err-mode
+returns-in_err-mode g c =
+    let p = err_from_is_err_and c.from_residual.result c.from_residual.ensures.1 in
     rw (p.1, p.2)
     (by_preamble g.M.Mender.rule c.args.mender.now c.args.n c.args.window.chips.now c.args.body.now c.args.mac.now c.requires.blank
-    c.in-err-mode.field-0.0 c.in-err-mode.ensures)
+    c.in_err-mode.field-0.0 c.in_err-mode.ensures)
 
 pub unreachable-requires : goal.unreachable-requires
 unreachable-requires g c =
-    part_stands c.args.n c.args.window.chips.now c.args.body.now c.args.mac.now c.in-default.field-0 c.requires.passed c.in-default.ensures
+    part_stands c.args.n c.args.window.chips.now c.args.body.now c.args.mac.now c.in_default.field-0 c.requires.passed c.in_default.ensures
 
-pub returns-in-err-head : goal.returns-in-err-head
-returns-in-err-head g c =
-    let p = err_from_is_err_and c.from-residual-in-err-head.result c.from-residual-in-err-head.ensures.1 in
+pub returns-in_err-head : goal.returns-in_err-head
+returns-in_err-head g c =
+    let p = err_from_is_err_and c.from_residual-in_err-head.result c.from_residual-in_err-head.ensures.1 in
     rw (p.1, p.2)
     (by_head g.M.Mender.rule c.args.mender.now c.args.n c.args.window.chips.now c.args.body.now c.args.mac.now c.requires.blank
-    c.in-ok-mode.mode c.in-ok-mode.ensures c.read-header.new.mender c.in-err-head.field-0.0
-    (head_at g.M.Mender.rule c.args.mender.now c.read-header.new.mender c.args.n c.args.window.chips.now c.in-Ok.part.chips.now
-    (Err c.in-err-head.field-0.0) c.in-Ok.ensures.1 c.in-err-head.ensures))
+    c.in_ok-mode.mode c.in_ok-mode.ensures c.read_header.new.mender c.in_err-head.field-0.0
+    (head_at g.M.Mender.rule c.args.mender.now c.read_header.new.mender c.args.n c.args.window.chips.now c.in-Ok.part.chips.now
+    (Err c.in_err-head.field-0.0) c.in-Ok.ensures.1 c.in_err-head.ensures))
 
 -- a header that passes, read from its part of the window
 told : (g : given.Over) (c : In-ok-head g)
-    → HeaderAs g.M.Mender.rule c.args.mender.now (header_read c.args.n c.args.window.chips.now) (Ok c.in-ok-head.head) c.read-header.new.mender
+    → HeaderAs g.M.Mender.rule c.args.mender.now (header_read c.args.n c.args.window.chips.now) (Ok c.in_ok-head.head) c.read_header.new.mender
 told g c =
-    head_at g.M.Mender.rule c.args.mender.now c.read-header.new.mender c.args.n c.args.window.chips.now c.in-Ok.part.chips.now
-    (Ok c.in-ok-head.head) c.in-Ok.ensures.1 c.in-ok-head.ensures
+    head_at g.M.Mender.rule c.args.mender.now c.read_header.new.mender c.args.n c.args.window.chips.now c.in-Ok.part.chips.now
+    (Ok c.in_ok-head.head) c.in-Ok.ensures.1 c.in_ok-head.ensures
 
-pub returns-in-err-mended : goal.returns-in-err-mended
-returns-in-err-mended g c =
-    let p = err_from_is_err_and c.from-residual-in-err-mended.result c.from-residual-in-err-mended.ensures.1 in
+pub returns-in_err-mended : goal.returns-in_err-mended
+returns-in_err-mended g c =
+    let p = err_from_is_err_and c.from_residual-in_err-mended.result c.from_residual-in_err-mended.ensures.1 in
     rw (p.1, p.2)
     (by_payload g.M.Mender.rule c.args.mender.now c.args.n c.args.window.chips.now c.args.body.now c.args.mac.now c.requires.blank
-    c.in-ok-mode.mode c.in-ok-mode.ensures c.read-header.new.mender c.in-ok-head.head (told g (goal.at.returns-in-err-mended g c).In-ok-head)
-    c.read-payload.new.mender c.in-err-mended.field-0.0 c.read-payload.new.body c.in-err-mended.ensures)
+    c.in_ok-mode.mode c.in_ok-mode.ensures c.read_header.new.mender c.in_ok-head.head (told g (goal.at.returns-in_err-mended g c).In-ok-head)
+    c.read_payload.new.mender c.in_err-mended.field-0.0 c.read_payload.new.body c.in_err-mended.ensures)
 
 pub overflow-add-result : goal.overflow-add-result
 overflow-add-result g c =
     let few =
     mended_few g.M.Mender.rule c.args.mender.now c.args.n c.args.window.chips.now c.args.body.now c.args.mac.now c.requires.blank
-    c.in-ok-mode.mode c.in-ok-mode.ensures c.read-header.new.mender c.in-ok-head.head (told g (goal.at.overflow-add-result g c).In-ok-head)
-    c.read-payload.new.mender c.in-ok-mended.mended c.read-payload.new.body c.in-ok-mended.ensures in
+    c.in_ok-mode.mode c.in_ok-mode.ensures c.read_header.new.mender c.in_ok-head.head (told g (goal.at.overflow-add-result g c).In-ok-head)
+    c.read_payload.new.mender c.in_ok-mended.mended c.read_payload.new.body c.in_ok-mended.ensures in
     omega arith
 
 pub returns : goal.returns
 returns g c =
     delivers g.M.Mender.rule c.args.mender.now c.args.n c.args.window.chips.now c.args.body.now c.args.mac.now c.requires.blank
-    c.in-ok-mode.mode c.in-ok-mode.ensures c.read-header.new.mender c.in-ok-head.head (told g (goal.at.returns g c).In-ok-head)
-    c.read-payload.new.mender c.in-ok-mended.mended c.read-payload.new.body c.copy-from-slice.new.self c.copy-from-slice.ensures.after
-    c.in-ok-mended.ensures
+    c.in_ok-mode.mode c.in_ok-mode.ensures c.read_header.new.mender c.in_ok-head.head (told g (goal.at.returns g c).In-ok-head)
+    c.read_payload.new.mender c.in_ok-mended.mended c.read_payload.new.body c.copy_from_slice.new.self c.copy_from_slice.ensures.after
+    c.in_ok-mended.ensures

@@ -15,18 +15,18 @@ told m n w s v r a text e p is t =
 
 pub returns-then-n-eq0 : goal.returns-then-n-eq0
 returns-then-n-eq0 c =
-    told c.args.mender c.mend.new.mender c.args.word.items c.as-mut-slice.result.now c.mend.new.word c.mend.result (Ok c.in-Ok.n) _
-    c.as-mut-slice.ensures.value c.mend.ensures c.in-Ok.is (whole c.in-Ok.n c.mend.new.word c.if-n-eq0.true)
+    told c.args.mender c.mend.new.mender c.args.word.items c.as_mut_slice.result.now c.mend.new.word c.mend.result (Ok c.in-Ok.n) _
+    c.as_mut_slice.ensures.value c.mend.ensures c.in-Ok.is (whole c.in-Ok.n c.mend.new.word c.if-n-eq0.true)
 
 pub returns-else-n-eq0 : goal.returns-else-n-eq0
 returns-else-n-eq0 c =
     let v : List ℕ = c.mend.new.word in
-    let long : length v ≡ c.args.word.len = omega (arith, c.mend.auto.word, c.as-mut-slice.ensures.len) in
-    told c.args.mender c.mend.new.mender c.args.word.items c.as-mut-slice.result.now v c.mend.result (Ok c.in-Ok.n) _
-    c.as-mut-slice.ensures.value c.mend.ensures c.in-Ok.is
+    let long : length v ≡ c.args.word.len = omega (arith, c.mend.auto.word, c.as_mut_slice.ensures.len) in
+    told c.args.mender c.mend.new.mender c.args.word.items c.as_mut_slice.result.now v c.mend.result (Ok c.in-Ok.n) _
+    c.as_mut_slice.ensures.value c.mend.ensures c.in-Ok.is
     (ap (named_text (codes "mended")) (with_items_is c.args.word v long) ∙ mended c.in-Ok.n v c.if-n-eq0.false)
 
 pub returns-in-Err : goal.returns-in-Err
 returns-in-Err c =
-    told c.args.mender c.mend.new.mender c.args.word.items c.as-mut-slice.result.now c.mend.new.word c.mend.result (Err c.in-Err.fault) _
-    c.as-mut-slice.ensures.value c.mend.ensures c.in-Err.is refl
+    told c.args.mender c.mend.new.mender c.args.word.items c.as_mut_slice.result.now c.mend.new.word c.mend.result (Err c.in-Err.fault) _
+    c.as_mut_slice.ensures.value c.mend.ensures c.in-Err.is refl

@@ -9,14 +9,14 @@ returns c =
     let word = c.args.word.now in
     let first = c.front-first.result in
     let plain = c.plain-octets.result in
-    let mac = c.mac-of-mac.result in
+    let mac = c.mac_of-mac.result in
     let phy = c.unpack-phy.result in
     let right =
-    c.is-right-right.ensures
-    ∙ right_is word first plain mac phy c.front-first.ensures c.unpack-phy.ensures c.plain-octets.ensures c.mac-of-mac.ensures c.told-word in
+    c.is_right-right.ensures
+    ∙ right_is word first plain mac phy c.front-first.ensures c.unpack-phy.ensures c.plain-octets.ensures c.mac_of-mac.ensures c.told-word in
     record {
-      phy = phy_is word first plain mac phy c.front-first.ensures c.unpack-phy.ensures c.plain-octets.ensures c.mac-of-mac.ensures;
-      mac = mac_is word first plain mac phy c.front-first.ensures c.unpack-phy.ensures c.plain-octets.ensures c.mac-of-mac.ensures;
+      phy = phy_is word first plain mac phy c.front-first.ensures c.unpack-phy.ensures c.plain-octets.ensures c.mac_of-mac.ensures;
+      mac = mac_is word first plain mac phy c.front-first.ensures c.unpack-phy.ensures c.plain-octets.ensures c.mac_of-mac.ensures;
       right = right;
-      decides = Decides-at c.is-right-right.result (header_right word) right (right_decides word c.told-word);
+      decides = Decides-at c.is_right-right.result (header_right word) right (right_decides word c.told-word);
     }

@@ -9,7 +9,7 @@ loop-j-init c = word_starts c.args.mode (masked c.args.window.chips.now) _
 
 pub loop-j-preserved : goal.loop-j-preserved
 loop-j-preserved c =
-    word_more c.args.mode (masked c.args.window.chips.now) c.loop-j.out _ c.loop-j.j c.payload-octet.result (omega arith) c.payload-octet.ensures c.loop-j.invariant
+    word_more c.args.mode (masked c.args.window.chips.now) c.loop-j.out _ c.loop-j.j c.payload_octet.result (omega arith) c.payload_octet.ensures c.loop-j.invariant
 
 pub returns : goal.returns
 returns c =

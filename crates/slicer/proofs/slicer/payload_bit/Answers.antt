@@ -1,8 +1,8 @@
 use Rattle.slicer.proofs.Payloads.{bit_none, bit_some, bit_inside}
 use Rattle.slicer.proofs.slicer.payload_bit.Goals as goal
 
-pub returns-in-default : goal.returns-in-default
-returns-in-default c = bit_none c.args.mode c.args.window.chips.now c.args.k c.in-default.ensures
+pub returns-in_default : goal.returns-in_default
+returns-in_default c = bit_none c.args.mode c.args.window.chips.now c.args.k c.in_default.ensures
 
 pub bounds-part-spread : goal.bounds-part-spread
 bounds-part-spread c =

@@ -8,5 +8,5 @@ loop-k-init c = (omega arith, omega (arith, octet_starts c.args.mode (masked c.a
 
 pub loop-k-preserved : goal.loop-k-preserved
 loop-k-preserved c =
-    payload_more c.args.mode c.args.window.chips.now c.args.j c.loop-k.k c.loop-k.octet c.payload-bit.result _
-    c.loop-k-test.true c.loop-k.invariant.0 c.payload-bit.ensures c.loop-k.invariant.1
+    payload_more c.args.mode c.args.window.chips.now c.args.j c.loop-k.k c.loop-k.octet c.payload_bit.result _
+    c.loop-k-test.true c.loop-k.invariant.0 c.payload_bit.ensures c.loop-k.invariant.1

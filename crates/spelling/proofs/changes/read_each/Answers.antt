@@ -6,20 +6,20 @@ use Rattle.spelling.specs.Changes.{change_read}
 use Rattle.spelling.proofs.Readings.{each_none, each_more, each_all}
 use Rattle.spelling.proofs.changes.read_each.Goals as goal
 
-pub returns-in-default-read-change : goal.returns-in-default-read-change
-returns-in-default-read-change c =
+pub returns-in_default-read_change : goal.returns-in_default-read_change
+returns-in_default-read_change c =
     let ps = pieces 44 c.args.text.now in
     let p = c.in-Some.ensures in
-    sym (each_none change_read ps c.loop-k.k [] (vec_items c.loop-k.changes) p.0 (c.in-default-read-change.ensures ∙ ap change_read p.1))
+    sym (each_none change_read ps c.loop-k.k [] (vec_items c.loop-k.changes) p.0 (c.in_default-read_change.ensures ∙ ap change_read p.1))
     ∙ c.loop-k.invariant
 
 pub loop-k-preserved : goal.loop-k-preserved
 loop-k-preserved c =
     let ps = pieces 44 c.args.text.now in
     let p = c.in-Some.ensures in
-    let change = c.in-Some-read-change.change in
-    ap (λ vs. behind vs (each change_read (drop (c.loop-k.k + 1) ps))) (pushed (change ∷ []) refl c.in-ok-push.was c.push.ensures.items)
-    ∙ sym (each_more change_read ps c.loop-k.k [] (vec_items c.loop-k.changes) change p.0 (c.in-Some-read-change.ensures ∙ ap change_read p.1))
+    let change = c.in-Some-read_change.change in
+    ap (λ vs. behind vs (each change_read (drop (c.loop-k.k + 1) ps))) (pushed (change ∷ []) refl c.in_ok-push.was c.push.ensures.items)
+    ∙ sym (each_more change_read ps c.loop-k.k [] (vec_items c.loop-k.changes) change p.0 (c.in-Some-read_change.ensures ∙ ap change_read p.1))
     ∙ c.loop-k.invariant
 
 pub returns : goal.returns

@@ -5,14 +5,14 @@ use Rattle.spelling.specs.Chips.{chip_value}
 use Rattle.spelling.proofs.Readings.{each_none, each_more, each_all}
 use Rattle.spelling.proofs.chips.read_digits.Goals as goal
 
-pub returns-in-default : goal.returns-in-default
-returns-in-default c =
-    sym (each_none chip_value c.args.text.now c.loop-digit.digit-index 0 (vec_items c.loop-digit.chips) c.loop-digit-test.true c.in-default.ensures)
+pub returns-in_default : goal.returns-in_default
+returns-in_default c =
+    sym (each_none chip_value c.args.text.now c.loop-digit.digit-index 0 (vec_items c.loop-digit.chips) c.loop-digit-test.true c.in_default.ensures)
     ∙ c.loop-digit.invariant
 
 pub loop-digit-preserved : goal.loop-digit-preserved
 loop-digit-preserved c =
-    ap (λ vs. behind vs (each chip_value (drop (c.loop-digit.digit-index + 1) c.args.text.now))) (pushed (c.in-Some.chip ∷ []) refl c.in-ok-push.was c.push.ensures.items)
+    ap (λ vs. behind vs (each chip_value (drop (c.loop-digit.digit-index + 1) c.args.text.now))) (pushed (c.in-Some.chip ∷ []) refl c.in_ok-push.was c.push.ensures.items)
     ∙ sym (each_more chip_value c.args.text.now c.loop-digit.digit-index 0 (vec_items c.loop-digit.chips) c.in-Some.chip c.loop-digit-test.true c.in-Some.ensures)
     ∙ c.loop-digit.invariant
 

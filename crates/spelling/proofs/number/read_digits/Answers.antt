@@ -8,20 +8,20 @@ step : (most n i : ℕ) (t : List ℕ) (o : Option ℕ) → i < length t → o �
 step most n i t o lt e =
     at_drop_more (digits_from most n) t i 0 lt ∙ ap (λ (p : Option ℕ). and_then p (λ m. digits_from most m (drop (i + 1) t))) (sym e)
 
-pub returns-in-err-n : goal.returns-in-err-n
-returns-in-err-n c = record {
+pub returns-in_err-n : goal.returns-in_err-n
+returns-in_err-n c = record {
   value =
-      c.from-residual.ensures
-      ∙ sym (step c.args.most c.loop-c.n c.loop-c.c-index c.args.text.now None c.loop-c-test.true c.in-err-n.ensures.value)
+      c.from_residual.ensures
+      ∙ sym (step c.args.most c.loop-c.n c.loop-c.c-index c.args.text.now None c.loop-c-test.true c.in_err-n.ensures.value)
       ∙ c.loop-c.invariant.0;
-  bound = rw c.from-residual.ensures tt;
+  bound = rw c.from_residual.ensures tt;
 }
 
 pub loop-c-preserved : goal.loop-c-preserved
 loop-c-preserved c = (
-  sym (step c.args.most c.loop-c.n c.loop-c.c-index c.args.text.now (Some c.in-ok-n.n) c.loop-c-test.true c.in-ok-n.ensures.value)
+  sym (step c.args.most c.loop-c.n c.loop-c.c-index c.args.text.now (Some c.in_ok-n.n) c.loop-c-test.true c.in_ok-n.ensures.value)
       ∙ c.loop-c.invariant.0,
-  c.in-ok-n.ensures.bound,
+  c.in_ok-n.ensures.bound,
 )
 
 pub returns : goal.returns

@@ -15,18 +15,18 @@ front ps j q qs e =
     let d = drop_more ps j [] lt in
     record { within = lt; is = cc; behind = cc }
 
-pub returns-in-err-i : goal.returns-in-err-i
-returns-in-err-i c =
-    rw c.from-residual.ensures (omega (arith, length-drop c.loop.counter (pieces c.args.by c.args.text.now), ap length (c.loop.invariant.0 ∙ c.in-err-i.ensures)))
+pub returns-in_err-i : goal.returns-in_err-i
+returns-in_err-i c =
+    rw c.from_residual.ensures (omega (arith, length-drop c.loop.counter (pieces c.args.by c.args.text.now), ap length (c.loop.invariant.0 ∙ c.in_err-i.ensures)))
 
 pub overflow-add-rest : goal.overflow-add-rest
-overflow-add-rest c = omega (arith, c.in-ok-i.ensures.0, c.loop.invariant.1)
+overflow-add-rest c = omega (arith, c.in_ok-i.ensures.0, c.loop.invariant.1)
 
 pub loop-preserved : goal.loop-preserved
 loop-preserved c =
     let rest = c.loop.rest.now in
-    let i = c.in-ok-i.i in
-    let f = front (pieces c.args.by c.args.text.now) c.loop.counter _ _ (c.loop.invariant.0 ∙ c.in-ok-i.ensures.1) in
+    let i = c.in_ok-i.i in
+    let f = front (pieces c.args.by c.args.text.now) c.loop.counter _ _ (c.loop.invariant.0 ∙ c.in_ok-i.ensures.1) in
     let cut = take_rest rest (i + 1) in (
       f.behind ∙ ap (pieces c.args.by) (sym cut),
       omega (arith, c.loop.invariant.1, ap length cut, length-drop (i + 1) rest),

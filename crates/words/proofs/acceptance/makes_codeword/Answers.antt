@@ -11,4 +11,4 @@ returns-then-word-room c =
     sym (too_long (changed w cs) (omega (arith, length_changed w cs)))
 
 pub returns : goal.returns
-returns c = c.is-codeword.ensures ∙ ap is_codeword (c.put.ensures ∙ ap (λ w. changed w c.args.changes.now) c.copy-from-slice.ensures.after)
+returns c = c.is_codeword.ensures ∙ ap is_codeword (c.put.ensures ∙ ap (λ w. changed w c.args.changes.now) c.copy_from_slice.ensures.after)

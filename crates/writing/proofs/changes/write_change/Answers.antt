@@ -10,12 +10,12 @@ pub returns : goal.returns
 unfolding encode
 returns c =
     let start : List ℕ = string_bytes c.args.out.now in
-    let first : List ℕ = string_bytes c.write-number.new.out in
+    let first : List ℕ = string_bytes c.write_number.new.out in
     let second : List ℕ = string_bytes c.push.new.self in
-    let third : List ℕ = string_bytes c.write-octet.new.out in
+    let third : List ℕ = string_bytes c.write_octet.new.out in
     let a : List ℕ = decimal c.args.change.place in
     let o : List ℕ = octet_written c.args.change.octet in
-    let colon : second ≡ first ++ codes ":" = pushed {was = first} (codes ":") refl c.in-ok-push.was c.push.ensures.bytes in
-    let both : second ≡ start ++ (a ++ codes ":") = after start first second a (codes ":") c.in-ok-write-number.ensures colon in
-    after start second third (a ++ codes ":") o both c.in-ok-write-octet.ensures
+    let colon : second ≡ first ++ codes ":" = pushed {was = first} (codes ":") refl c.in_ok-push.was c.push.ensures.bytes in
+    let both : second ≡ start ++ (a ++ codes ":") = after start first second a (codes ":") c.in_ok-write_number.ensures colon in
+    after start second third (a ++ codes ":") o both c.in_ok-write_octet.ensures
     ∙ ap (λ (s : List ℕ). start ++ s) (append_assoc a (codes ":") o)

@@ -12,7 +12,7 @@ returns c =
     let cs : List Change = c.args.changes.now in
     let start : List ℕ = string_bytes c.args.out.now in
     let some : 0 < length cs = omega (arith, c.if-changes-eq0.false) in
-    let first : List ℕ = string_bytes c.write-change.new.out in
-    let second : List ℕ = string_bytes c.write-rest.new.out in
-    after start first second (change_written (get_or cs 0 blank)) (listed (between 1 (length cs) cs)) c.in-ok-write-change.ensures c.in-ok-write-rest.ensures
+    let first : List ℕ = string_bytes c.write_change.new.out in
+    let second : List ℕ = string_bytes c.write_rest.new.out in
+    after start first second (change_written (get_or cs 0 blank)) (listed (between 1 (length cs) cs)) c.in_ok-write_change.ensures c.in_ok-write_rest.ensures
     ∙ ap (λ (ds : List Change). start ++ changes_written ds) (sym (first_rest cs blank some))

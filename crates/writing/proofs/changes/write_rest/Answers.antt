@@ -15,10 +15,10 @@ loop-change-preserved c =
     let i : ℕ = c.loop-change.change-index in
     let start : List ℕ = string_bytes c.loop-change.out in
     let first : List ℕ = string_bytes c.push.new.self in
-    let second : List ℕ = string_bytes c.write-change.new.out in
+    let second : List ℕ = string_bytes c.write_change.new.out in
     let text : List ℕ = change_written (get_or cs i blank) in
-    let comma : first ≡ start ++ codes "," = pushed {was = start} (codes ",") refl c.in-ok-push.was c.push.ensures.bytes in
-    let wrote : second ≡ first ++ text = c.in-ok-write-change.ensures in
+    let comma : first ≡ start ++ codes "," = pushed {was = start} (codes ",") refl c.in_ok-push.was c.push.ensures.bytes in
+    let wrote : second ≡ first ++ text = c.in_ok-write_change.ensures in
     let both : second ≡ start ++ (codes "," ++ text) = after start first second (codes ",") text comma wrote in
     ap (λ (bs : List ℕ). bs ++ listed (drop (i + 1) cs)) both
     ∙ append_assoc start (codes "," ++ text) (listed (drop (i + 1) cs))

@@ -10,8 +10,8 @@ loop-chip-preserved c =
     let i = c.loop-chip.chip-index in
     let start = string_bytes c.args.out.now in
     let before = map chip_char (take i cs) in
-    let one = c.push.ensures.ascii c.chip-digit.ensures.ascii ∙ ap (λ (d : ℕ). d ∷ []) c.chip-digit.ensures.digit in
-    pushed _ c.loop-chip.invariant c.in-ok-push.was c.push.ensures.bytes
+    let one = c.push.ensures.ascii c.chip_digit.ensures.ascii ∙ ap (λ (d : ℕ). d ∷ []) c.chip_digit.ensures.digit in
+    pushed _ c.loop-chip.invariant c.in_ok-push.was c.push.ensures.bytes
     ∙ append_assoc start before _
     ∙ ap (λ (bs : List ℕ). start ++ (before ++ bs)) one
     ∙ ap (λ (bs : List ℕ). start ++ bs) (sym (map_more chip_char cs i 0 c.loop-chip-test.true))

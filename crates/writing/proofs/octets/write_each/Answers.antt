@@ -7,7 +7,7 @@ pub loop-octet-preserved : goal.loop-octet-preserved
 loop-octet-preserved c =
     let os = c.args.octets.now in
     let i = c.loop-octet.octet-index in
-    ap (λ (bs : List ℕ). bs ++ octets_hex (drop (i + 1) os)) c.in-ok-write-octet.ensures
+    ap (λ (bs : List ℕ). bs ++ octets_hex (drop (i + 1) os)) c.in_ok-write_octet.ensures
     ∙ append_assoc (string_bytes c.loop-octet.out) (octet_written (get_or os i 0)) (octets_hex (drop (i + 1) os))
     ∙ ap (λ (bs : List ℕ). string_bytes c.loop-octet.out ++ bs) (sym (at_drop_more octets_hex os i 0 c.loop-octet-test.true))
     ∙ c.loop-octet.invariant

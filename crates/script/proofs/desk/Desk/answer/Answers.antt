@@ -3,7 +3,7 @@ use Rattle.std.proofs.lemmas.Result.{err_from_is_err_and}
 use Rattle.script.proofs.Obeying.{not_read}
 use Rattle.script.proofs.desk.Desk.answer.Goals as goal
 
-pub returns-in-err-call : goal.returns-in-err-call
-returns-in-err-call c =
-    let p = err_from_is_err_and c.from-residual.result c.from-residual.ensures.1 in
-    rw (p.1, p.2) (not_read (call_said c.args.text.now) c.in-err-call.field-0.0 c.in-err-call.ensures)
+pub returns-in_err-call : goal.returns-in_err-call
+returns-in_err-call c =
+    let p = err_from_is_err_and c.from_residual.result c.from_residual.ensures.1 in
+    rw (p.1, p.2) (not_read (call_said c.args.text.now) c.in_err-call.field-0.0 c.in_err-call.ensures)

@@ -6,14 +6,14 @@ use Rattle.script.specs.Performed.{Answers}
 use Rattle.script.proofs.Obeying.{answered, wrong}
 use Rattle.script.proofs.desk.Desk.obey.Goals as goal
 
-pub returns-in-ok-write-answer : goal.returns-in-ok-write-answer
-returns-in-ok-write-answer c =
-    answered c.args.number c.args.line.now c.call-part.result.now (string_bytes c.args.out.now) (string_bytes c.write-answer.new.out)
-    (sym c.is-passed-over.ensures ∙ c.if-is-passed-over.false) c.call-part.ensures c.in-Ok.answer c.in-Ok.ensures c.in-ok-write-answer.ensures
+pub returns-in_ok-write_answer : goal.returns-in_ok-write_answer
+returns-in_ok-write_answer c =
+    answered c.args.number c.args.line.now c.call_part.result.now (string_bytes c.args.out.now) (string_bytes c.write_answer.new.out)
+    (sym c.is_passed_over.ensures ∙ c.if-is_passed_over.false) c.call_part.ensures c.in-Ok.answer c.in-Ok.ensures c.in_ok-write_answer.ensures
 
-pub returns-in-ok-write-wrong : goal.returns-in-ok-write-wrong
-returns-in-ok-write-wrong c =
-    let said = call_said c.call-part.result.now in
+pub returns-in_ok-write_wrong : goal.returns-in_ok-write_wrong
+returns-in_ok-write_wrong c =
+    let said = call_said c.call_part.result.now in
     let told : Answers said (Err (stop_wrong c.in-Wrong.wrong)) = subst (λ (e : Stop). Answers said (Err e)) c.in-Wrong.is c.in-Err.ensures in
-    wrong c.args.number c.args.line.now c.call-part.result.now (string_bytes c.args.out.now) (string_bytes c.write-wrong.new.out)
-    (sym c.is-passed-over.ensures ∙ c.if-is-passed-over.false) c.call-part.ensures c.in-Wrong.wrong told c.in-ok-write-wrong.ensures
+    wrong c.args.number c.args.line.now c.call_part.result.now (string_bytes c.args.out.now) (string_bytes c.write_wrong.new.out)
+    (sym c.is_passed_over.ensures ∙ c.if-is_passed_over.false) c.call_part.ensures c.in-Wrong.wrong told c.in_ok-write_wrong.ensures

@@ -6,7 +6,7 @@ use Rattle.script.specs.Performed.{Performed}
 use Rattle.script.specs.Windows.{header_text}
 use Rattle.script.proofs.desk.Desk.perform.Goals as goal
 
-pub returns-in-ok-header-part : goal.returns-in-ok-header-part
-returns-in-ok-header-part c =
-    subst (λ (call : Call). Performed (said call) (answer_text c.in-ok-header-part.field-0)) (sym c.in-Header.is)
-    (c.in-ok-header-part.ensures ∙ ap (header_text c.in-Header.channels) c.as-slice.ensures.value)
+pub returns-in_ok-header_part : goal.returns-in_ok-header_part
+returns-in_ok-header_part c =
+    subst (λ (call : Call). Performed (said call) (answer_text c.in_ok-header_part.field-0)) (sym c.in-Header.is)
+    (c.in_ok-header_part.ensures ∙ ap (header_text c.in-Header.channels) c.as_slice.ensures.value)
