@@ -2,8 +2,8 @@ use Rattle.std.proofs.Common.{◌≡◌, ◌<◌, get_or, arith, rules}
 use Rattle.format.proofs.HeaderBits.{joined_code, joined_below, unpacked_code}
 use Rattle.format.proofs.header.unpack.Goals as goal
 
-pub overflow-cast-result-2 : goal.overflow-cast-result-2
-overflow-cast-result-2 c =
+pub overflow_cast-result-2 : goal.overflow_cast-result-2
+overflow_cast-result-2 c =
     let a : get_or c.args.octets.now 0 0 < 256 = search rules in
     omega (arith, joined_below c.args.octets.now a)
 

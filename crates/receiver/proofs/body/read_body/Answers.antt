@@ -20,8 +20,8 @@ one_more g c =
     more g.M.Mender.rule c.args.mender.now c.args.mode c.args.length c.args.window.chips.now c.args.body.now
     c.loop-k.k c.loop-k.total c.loop-k.body c.read_word.new.body c.loop-k.mender c.read_word.new.mender (omega arith) c.loop-k.invariant c.in_ok-total.field-0 c.in_ok-total.ensures
 
-pub overflow-add-total : goal.overflow-add-total
-overflow-add-total g c =
+pub overflow_add-total : goal.overflow_add-total
+overflow_add-total g c =
     omega (
       arith,
       few g.M.Mender.rule c.args.mender.now c.args.mode c.args.length c.args.window.chips.now c.args.body.now (c.loop-k.k + 1) (c.loop-k.total + c.in_ok-total.field-0)

@@ -43,11 +43,11 @@ returns-in_err-mended g c =
     c.in_ok-mode.mode c.in_ok-mode.ensures c.read_header.new.mender c.in_ok-head.head (told g (goal.at.returns-in_err-mended g c).In-ok-head)
     c.read_payload.new.mender c.in_err-mended.field-0.0 c.read_payload.new.body c.in_err-mended.ensures)
 
-pub overflow-add-result : goal.overflow-add-result
-overflow-add-result g c =
+pub overflow_add-result : goal.overflow_add-result
+overflow_add-result g c =
     let few =
     mended_few g.M.Mender.rule c.args.mender.now c.args.n c.args.window.chips.now c.args.body.now c.args.mac.now c.requires.blank
-    c.in_ok-mode.mode c.in_ok-mode.ensures c.read_header.new.mender c.in_ok-head.head (told g (goal.at.overflow-add-result g c).In-ok-head)
+    c.in_ok-mode.mode c.in_ok-mode.ensures c.read_header.new.mender c.in_ok-head.head (told g (goal.at.overflow_add-result g c).In-ok-head)
     c.read_payload.new.mender c.in_ok-mended.mended c.read_payload.new.body c.in_ok-mended.ensures in
     omega arith
 

@@ -2,8 +2,8 @@ use Rattle.std.proofs.Common.{◌++◌, replicate, ◌∙◌, ap₂, arith, leng
 use Rattle.slicer.proofs.Openings.{two_parts}
 use Rattle.slicer.proofs.opened.headers.Goals as goal
 
-pub slice-bounds-row-end-2 : goal.slice-bounds-row-end-2
-slice-bounds-row-end-2 c = omega (arith, length-append c.copy_from_slice.new.self (replicate 10 0), c.copy_from_slice.ensures.len)
+pub slice_bounds-row-end-2 : goal.slice_bounds-row-end-2
+slice_bounds-row-end-2 c = omega (arith, length-append c.copy_from_slice.new.self (replicate 10 0), c.copy_from_slice.ensures.len)
 
 pub returns : goal.returns
 returns c =

@@ -5,13 +5,13 @@ use Rattle.slicer.proofs.Groups.{sum_in, sum_out, sum_done, after_next}
 use Rattle.slicer.proofs.slicer.lit.Goals as goal
 use Rattle.slicer.proofs.slicer.lit.Goals.{then-place-k, else-place-k}
 
-pub overflow-cast-sum : goal.overflow-cast-sum
-overflow-cast-sum c =
+pub overflow_cast-sum : goal.overflow_cast-sum
+overflow_cast-sum c =
     let x : get_or c.args.chips.now (c.args.place + c.loop-k.k) 0 < 256 = search rules in
     omega (arith, xor_lt 8 (get_or c.args.chips.now (c.args.place + c.loop-k.k) 0) c.next-bit.result x (omega arith))
 
-pub overflow-add-sum-then-place-k : goal.overflow-add-sum-then-place-k
-overflow-add-sum-then-place-k c =
+pub overflow_add-sum-then-place-k : goal.overflow_add-sum-then-place-k
+overflow_add-sum-then-place-k c =
     let x : get_or c.args.chips.now (c.args.place + c.loop-k.k) 0 < 256 = search rules in
     omega (arith, xor_lt 8 (get_or c.args.chips.now (c.args.place + c.loop-k.k) 0) c.next-bit.result x (omega arith))
 

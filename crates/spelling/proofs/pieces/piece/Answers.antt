@@ -19,8 +19,8 @@ pub returns-in_err-i : goal.returns-in_err-i
 returns-in_err-i c =
     rw c.from_residual.ensures (omega (arith, length-drop c.loop.counter (pieces c.args.by c.args.text.now), ap length (c.loop.invariant.0 ∙ c.in_err-i.ensures)))
 
-pub overflow-add-rest : goal.overflow-add-rest
-overflow-add-rest c = omega (arith, c.in_ok-i.ensures.0, c.loop.invariant.1)
+pub overflow_add-rest : goal.overflow_add-rest
+overflow_add-rest c = omega (arith, c.in_ok-i.ensures.0, c.loop.invariant.1)
 
 pub loop-preserved : goal.loop-preserved
 loop-preserved c =

@@ -3,4 +3,4 @@ use Rattle.format.specs.Sequences.{after}
 use Rattle.format.proofs.sequence.Register.skip.Given as goal
 
 abbrev pub invariant-loop-i : goal.invariant-loop-i
-invariant-loop-i l = after (l.n - l.-i) l.self.bits ≡ after l.n l.initial.self.bits
+invariant-loop-i l = after (l.n - l._i) l.self.bits ≡ after l.n l.initial.self.bits
