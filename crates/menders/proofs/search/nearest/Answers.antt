@@ -7,7 +7,7 @@ use Rattle.words.specs.Changes.{fault_of, blank}
 use Rattle.mending.specs.Menders.{sound}
 use Rattle.menders.proofs.Nearness.{ok_sound, proposed_found, proposed_accepted, proposed_near}
 use Rattle.menders.proofs.search.nearest.Goals as goal
-use Rattle.menders.proofs.search.nearest.Goals.{else-count-t-via-then-count-t+else-is-ok, else-count-t-via-else-count-t}
+use Rattle.menders.proofs.search.nearest.Goals.{else-count-t-via-then-count-t+else-is_ok, else-count-t-via-else-count-t}
 
 pub returns-then-is_ok : goal.returns-then-is_ok
 returns-then-is_ok c =
@@ -34,7 +34,7 @@ returns c =
     let all : c.candidates-count.result - 0 ≡ c.candidates-count.result = omega arith in
     record {
       nearest = λ d code long some near. elim c.else-count-t.branch [
-        | else-count-t-via-then-count-t+else-is-ok v ↦ both_ways v.is_ok.result v.if-is_ok.false
+        | else-count-t-via-then-count-t+else-is_ok v ↦ both_ways v.is_ok.result v.if-is_ok.false
             (v.is_ok.ensures.value ∙ ap is_ok v.accept.ensures ∙ ok_sound (fault_of w (take (n - 0) out)) ∙ ap (λ k. sound (fault_of w (take k out))) all
             ∙ proposed_accepted c.args.t w (take n out) P H c.requires d code long some near)
         | else-count-t-via-else-count-t v ↦ omega (
