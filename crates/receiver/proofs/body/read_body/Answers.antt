@@ -14,7 +14,7 @@ returns-in_err-total g c =
     (stops g.M.Mender.rule c.args.mender.now c.args.mode c.args.length c.args.window.chips.now c.args.body.now
     c.loop-k.k c.loop-k.total c.loop-k.body c.read_word.new.body c.loop-k.mender c.read_word.new.mender (omega arith) c.loop-k.invariant c.in_err-total.field-0.0 c.requires.short c.in_err-total.ensures)
 
-one_more : (g : given.Over) (c : goal.In-ok-total g) → SoFar g.M.Mender.rule c.args.mender.now c.args.mode c.args.length c.args.window.chips.now (c.loop-k.k + 1)
+one_more : (g : given.Over) (c : goal.In_ok-total g) → SoFar g.M.Mender.rule c.args.mender.now c.args.mode c.args.length c.args.window.chips.now (c.loop-k.k + 1)
     (c.loop-k.total + c.in_ok-total.field-0) c.args.body.now c.read_word.new.body c.read_word.new.mender
 one_more g c =
     more g.M.Mender.rule c.args.mender.now c.args.mode c.args.length c.args.window.chips.now c.args.body.now
