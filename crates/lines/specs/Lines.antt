@@ -1,5 +1,5 @@
 -- Lines: which are passed over, and what of the others is read.
-use Rattle.std.specs.Prelude.{ℕ, Bool, true, false, cond, ◌&&◌, List, [], ◌∷◌, ◌==◌, slice_index}
+use Rattle.std.specs.Prelude.{ℕ, Bool, true, cond, ◌&&◌, List, [], ◌∷◌, ◌==◌, slice_index}
 
 -- 35 is the number sign, and 32 the space
 abbrev pub passed_over : List ℕ → Bool

@@ -1,4 +1,4 @@
-use Rattle.std.proofs.Common.{◌≡◌, ℕ, ◌+◌, ◌-◌, ◌<◌, ◌≤◌, Bool, true, false, cond, ◌&&◌, eqb, List, [], ◌∷◌, ◌++◌, length, get_or, take, drop, sym, refl, ap, ◌∙◌, add-zero, arith}
+use Rattle.std.proofs.Common.{◌≡◌, ℕ, ◌+◌, ◌-◌, ◌<◌, ◌≤◌, Bool, true, false, cond, ◌&&◌, eqb, List, [], ◌∷◌, ◌++◌, length, get_or, take, drop, sym, ap, ◌∙◌, add-zero, arith}
 use Rattle.std.proofs.lemmas.List.{at_drop_more, at_drop_all, append_assoc, append-nil, take_more, take_all, get_or-drop}
 use Rattle.std.proofs.lemmas.Bool.{cond-true, cond-false}
 use Rattle.lines.specs.Lines.{uncommented}
@@ -31,13 +31,13 @@ module _ (t : List ℕ) (i : ℕ) (passed : uncommented t ≡ take i t ++ uncomm
   ends : length t ≤ i → t ≡ uncommented t
   ends end = sym (passed ∙ ap (λ (u : List ℕ). take i t ++ u) (at_drop_all uncommented t i end) ∙ append-nil (take i t) ∙ take_all i t end)
 
-pub returns-then-begins-comment : goal.returns-then-begins-comment
-returns-then-begins-comment c =
-    stops c.args.line.now c.loop-i.i c.loop-i.invariant c.loop-i-test.true (sym c.begins-comment.ensures ∙ c.if-begins-comment.true)
+pub returns-then-begins_comment : goal.returns-then-begins_comment
+returns-then-begins_comment c =
+    stops c.args.line.now c.loop-i.i c.loop-i.invariant c.loop-i-test.true (sym c.begins_comment.ensures ∙ c.if-begins_comment.true)
 
 pub loop-i-preserved : goal.loop-i-preserved
 loop-i-preserved c =
-    goes c.args.line.now c.loop-i.i c.loop-i.invariant c.loop-i-test.true (sym c.begins-comment.ensures ∙ c.if-begins-comment.false)
+    goes c.args.line.now c.loop-i.i c.loop-i.invariant c.loop-i-test.true (sym c.begins_comment.ensures ∙ c.if-begins_comment.false)
 
 pub returns : goal.returns
 returns c = ends c.args.line.now c.loop-i.i c.loop-i.invariant c.loop-i-test.false
