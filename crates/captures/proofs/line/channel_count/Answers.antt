@@ -1,7 +1,7 @@
-use Rattle.std.proofs.Common.{◌≡◌, ℕ, ◌+◌, ◌<◌, List, [], ◌∷◌, length, get_or, drop, Some, None, Option, sym, refl, ap, ◌∙◌, arith}
+use Rattle.std.proofs.Common.{◌≡◌, ℕ, ◌+◌, ◌<◌, List, [], ◌∷◌, length, get_or, drop, Some, None, sym, refl, ap, ◌∙◌}
 use Rattle.std.proofs.lemmas.List.{at_drop_more, at_drop_all}
 use Rattle.std.proofs.lemmas.Bool.{eqb-false}
-use Rattle.captures.specs.Windows.{with_digit, digit_on, counted, channel_count}
+use Rattle.captures.specs.Windows.{with_digit, counted, channel_count}
 use Rattle.captures.proofs.line.channel_count.Goals as goal
 
 stays_none : (ds : List ℕ) → counted None ds ≡ None
@@ -21,22 +21,22 @@ whole : (xs : List ℕ) → (length xs ≡ 0 → ⊥) → counted (Some 0) xs �
 whole [] h = absurd (h refl)
 whole (d ∷ ds) h = refl
 
-pub returns-in-err-count : goal.returns-in-err-count
-returns-in-err-count c =
+pub returns-in_err-count : goal.returns-in_err-count
+returns-in_err-count c =
     let xs = c.args.field.now in
     let i = c.loop-d.d-index in
-    let none = stops c.loop-d.count xs i c.loop-d-test.true c.in-err-count.ensures in
-    c.from-residual.ensures ∙ (none ∙ (c.loop-d.invariant ∙ whole xs (eqb-false (length xs) 0 (sym c.if-is-empty.ensures))))
+    let none = stops c.loop-d.count xs i c.loop-d-test.true c.in_err-count.ensures in
+    c.from_residual.ensures ∙ (none ∙ (c.loop-d.invariant ∙ whole xs (eqb-false (length xs) 0 (sym c.if-is_empty.ensures))))
 
 pub loop-d-preserved : goal.loop-d-preserved
 loop-d-preserved c =
     let xs = c.args.field.now in
     let i = c.loop-d.d-index in
-    goes_on c.loop-d.count c.in-ok-count.count xs i c.loop-d-test.true c.in-ok-count.ensures ∙ c.loop-d.invariant
+    goes_on c.loop-d.count c.in_ok-count.count xs i c.loop-d-test.true c.in_ok-count.ensures ∙ c.loop-d.invariant
 
 pub returns : goal.returns
 returns c =
     let xs = c.args.field.now in
     let i = c.loop-d.d-index in
     let n = c.loop-d.count in
-    sym (at_drop_all (counted (Some n)) xs i c.loop-d-test.false) ∙ (c.loop-d.invariant ∙ whole xs (eqb-false (length xs) 0 (sym c.if-is-empty.ensures)))
+    sym (at_drop_all (counted (Some n)) xs i c.loop-d-test.false) ∙ (c.loop-d.invariant ∙ whole xs (eqb-false (length xs) 0 (sym c.if-is_empty.ensures)))

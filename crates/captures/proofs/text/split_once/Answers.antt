@@ -1,6 +1,6 @@
 use Rattle.std.proofs.Common.{◌≡◌, ℕ, ◌+◌, ◌-◌, List, [], length, take, drop, sym, ap, ◌∙◌, arith}
 use Rattle.std.proofs.lemmas.List.{take_all, drop_all, take_rest}
-use Rattle.captures.specs.Lines.{place, before, behind}
+use Rattle.captures.specs.Lines.{before, behind}
 use Rattle.captures.proofs.text.split_once.Goals as goal
 
 all_before : (text : List ℕ) (p q : ℕ) → p ≡ q → p ≡ length text → text ≡ take q text
@@ -19,8 +19,8 @@ pub returns-then-place-text : goal.returns-then-place-text
 unfolding before behind
 returns-then-place-text c =
     let text = c.args.text.now in
-    let p = c.place-of-place.result in
-    let e = c.place-of-place.ensures.value in
+    let p = c.place_of-place.result in
+    let e = c.place_of-place.ensures.value in
     let h = c.if-place-text.true in
     record { front = all_before text p _ e h; back = none_behind text p _ e h }
 
@@ -28,6 +28,6 @@ pub returns : goal.returns
 unfolding before behind
 returns c =
     let text = c.args.text.now in
-    let p = c.place-of-place.result in
-    let e = c.place-of-place.ensures.value in
+    let p = c.place_of-place.result in
+    let e = c.place_of-place.ensures.value in
     record { front = some_before text p _ e; back = some_behind text p _ e }
