@@ -17,7 +17,7 @@ pub(crate) fn fill(octets: &mut [u8]) {
 }
 
 fn same(a: &[u8], b: &[u8]) -> bool {
-    a.len() == b.len() && elements::differences(a, b) == 0
+    a.len() == b.len() && polynomials::differences(a, b) == 0
 }
 
 // Whether the parity of the message is the one expected.

@@ -30,8 +30,8 @@ fn comes_back<M: Mender>(
     let Ok(d) = station.read(channels, chips.as_slice(), &mut out, &mut mac) else {
         return Ok(false);
     };
-    let same = elements::differences(body.as_slice(), &out) == 0
-        && elements::differences(MAC, &mac) == 0;
+    let same = polynomials::differences(body.as_slice(), &out) == 0
+        && polynomials::differences(MAC, &mac) == 0;
     Ok(
         same && d.seed == built.seed
             && d.aggregation

@@ -39,7 +39,7 @@ fn mended<M: Mender>(
     let reach = mender.reach();
     spoil(room, spoiled, from);
     let answer = mend(mender, room);
-    let apart = elements::differences(room, whole);
+    let apart = polynomials::differences(room, whole);
     if spoiled <= reach {
         answer == Ok(spoiled) && apart == 0
     } else {
