@@ -2,12 +2,11 @@
 ghost use Rattle.std.specs.Prelude.{◌<◌};
 
 use crate::tally::Tally;
-use mending::Mender;
 
 pub mod calls;
 
 #[derive(Drop)]
-pub struct Station<M: Mender> {
+pub struct Station<M> {
     // The seed of the next frame; only an accepted build moves it.
     seed: u8,
     tally: Tally,
