@@ -4,13 +4,11 @@ use Rattle.std.specs.List.{range_with_len}
 use Rattle.std.proofs.lemmas.List.{length-append, take_at, drop_at, drop-drop, drop_more, take-append-drop}
 use Rattle.std.proofs.lemmas.Slice.{drop-append-drop}
 use Rattle.std.proofs.lemmas.List.FromFn.{map-range_with_len_more, length-map-range_with_len, get_or-map-range_with_len, take-map-range_with_len}
-use Rattle.words.specs.declared.fault.WordFault.{WordFault}
 use Rattle.mending.specs.Menders.{Rule}
 use Rattle.format.specs.declared.mode.Mode.{Mode}
 use Rattle.format.specs.Payload.{word_count}
 use Rattle.format.specs.Reading.{word_read}
 use Rattle.faults.specs.declared.fault.PayloadFault.{PayloadFault}
-use Rattle.faults.specs.declared.fault.PayloadFault.TheVariants.{Word as payload_word}
 use Rattle.account.specs.Asks.{Asked, Chain, One, Unmended, Words}
 use Rattle.account.specs.Reads.{messages_of, words_read}
 use Rattle.account.specs.Answers.{Put, WordAs, BodyAs}

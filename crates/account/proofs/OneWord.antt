@@ -1,7 +1,6 @@
 -- Mending one word, as the account of it.
-use Rattle.std.proofs.Common.{◌≡◌, ℕ, ◌-◌, Bool, true, false, List, [], ◌∷◌, ◌++◌, length, take, Option, Result, sym, refl, ap, ◌∙◌, subst, arith}
+use Rattle.std.proofs.Common.{◌≡◌, ℕ, ◌-◌, Bool, true, false, List, [], ◌∷◌, ◌++◌, length, take, Result, sym, refl, subst, arith}
 use Rattle.std.proofs.lemmas.List.{take_at}
-use Rattle.words.specs.declared.change.Change.{Change}
 use Rattle.words.specs.declared.fault.WordFault.{WordFault}
 use Rattle.words.specs.Coder.{is_codeword}
 use Rattle.mending.specs.Menders.{Rule}

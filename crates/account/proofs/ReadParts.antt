@@ -18,7 +18,7 @@ use Rattle.faults.specs.declared.fault.PayloadFault.{PayloadFault}
 use Rattle.faults.specs.declared.fault.PayloadFault.TheVariants.{Ends}
 use Rattle.faults.specs.declared.fault.Fault.{Fault}
 use Rattle.faults.specs.declared.fault.Fault.TheVariants.{Preamble, Header, Payload}
-use Rattle.account.specs.Asks.{Asked, One, Unmended, Words}
+use Rattle.account.specs.Asks.{Asked, One, Words}
 use Rattle.account.specs.Rows.{preamble_row, header_row, check_right}
 use Rattle.account.specs.Reads.{Read, Turned, Delivered, messages_of, words_read, ByBody, ByLength, ByHeader, ByWord, ByMode}
 use Rattle.account.specs.declared.head.Head.{Head}

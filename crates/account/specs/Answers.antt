@@ -1,5 +1,5 @@
 -- What the parts of a read answer.
-use Rattle.std.specs.Prelude.{◌≡◌, ℕ, ◌+◌, ◌-◌, ◌*◌, ◌≤◌, Bool, true, false, cond, List, [], ◌∷◌, ◌++◌, length, take, drop, replicate, Some, None, Ok, Err, Option, Result, nat_le}
+use Rattle.std.specs.Prelude.{◌≡◌, ℕ, ◌+◌, ◌-◌, ◌*◌, ◌≤◌, Bool, true, false, List, [], ◌++◌, length, take, drop, replicate, Some, None, Ok, Err, Option, Result, nat_le}
 use Rattle.std.specs.List.{AllByRecursion as All}
 use Rattle.words.specs.declared.fault.WordFault.{WordFault}
 use Rattle.mending.specs.Menders.{Rule}
@@ -18,7 +18,7 @@ use Rattle.faults.specs.declared.fault.PayloadFault.{PayloadFault}
 use Rattle.faults.specs.declared.fault.PayloadFault.TheVariants.{Word as payload_word, Ends}
 use Rattle.account.specs.Asks.{Asked, Chain, One, Unmended, Words}
 use Rattle.account.specs.Rows.{preamble_row, header_row}
-use Rattle.account.specs.Reads.{Read, messages_of, words_read, ByMode, Accounted}
+use Rattle.account.specs.Reads.{messages_of, words_read, ByMode, Accounted}
 use Rattle.account.specs.declared.head.Head.{Head}
 
 abbrev pub admitted : Option DoorFault → Result (Unit {0}) DoorFault

@@ -1,5 +1,5 @@
 -- A read, by what the mender was asked and proposed.
-use Rattle.std.specs.Prelude.{◌≡◌, ℕ, ◌+◌, ◌-◌, Bool, true, false, cond, List, [], ◌∷◌, ◌++◌, map, length, take, drop, replicate, Some, None, Ok, Err, Option, Result, nat_le}
+use Rattle.std.specs.Prelude.{◌≡◌, ℕ, ◌+◌, ◌-◌, Bool, true, false, List, [], ◌∷◌, ◌++◌, map, length, take, drop, replicate, Some, None, Ok, Err, Option, Result, nat_le}
 use Rattle.std.specs.List.{range_with_len}
 use Rattle.words.specs.declared.fault.WordFault.{WordFault}
 use Rattle.format.specs.declared.fault.DoorFault.{DoorFault}

@@ -1,5 +1,5 @@
 -- The rows of docs/REFUSALS.md that need no mender: which applies first.
-use Rattle.std.specs.Prelude.{ℕ, ◌+◌, Bool, true, false, cond, not, ◌&&◌, ◌||◌, List, [], ◌∷◌, ◌++◌, length, take, Some, None, Ok, Err, Option, Result, ◌==◌, nat_le}
+use Rattle.std.specs.Prelude.{ℕ, Bool, true, false, cond, ◌&&◌, List, ◌++◌, length, take, Some, None, Ok, Err, Option, Result, ◌==◌, nat_le}
 use Rattle.elements.specs.Octets.{octets}
 use Rattle.polynomials.specs.Differences.{differing}
 use Rattle.format.specs.declared.code.Code.{Code}
@@ -7,7 +7,7 @@ use Rattle.format.specs.declared.code.Code.TheVariants.{A, MinusA, B, MinusB}
 use Rattle.format.specs.declared.fault.DoorFault.{DoorFault}
 use Rattle.format.specs.declared.fault.DoorFault.TheVariants.{Channels as no_channels, Buffers, Window, Chip}
 use Rattle.format.specs.declared.mode.Mode.{Mode}
-use Rattle.format.specs.Modes.{Row, row, mode_by}
+use Rattle.format.specs.Modes.{row, mode_by}
 use Rattle.format.specs.Header.{hcs}
 use Rattle.format.specs.Frame.{payload_place}
 use Rattle.format.specs.Reading.{bad_from, code_at, read_code, phy_read, mac_read, hcs_read}

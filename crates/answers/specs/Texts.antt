@@ -1,5 +1,5 @@
 -- Answers as text.
-use Rattle.std.specs.Prelude.{ℕ, Bool, true, false, cond, List, [], ◌++◌, length, Some, None, vec_items, codes, decimal, Option}
+use Rattle.std.specs.Prelude.{ℕ, true, false, cond, List, [], ◌++◌, length, Some, None, vec_items, codes, decimal, Option}
 use Rattle.words.specs.declared.change.Change.{Change}
 use Rattle.words.specs.declared.fault.Layer.{Layer}
 use Rattle.words.specs.declared.fault.Layer.TheVariants.{WordCoder, Door, Preamble, Header, Payload}

@@ -1,5 +1,5 @@
 -- What the words of a line say.
-use Rattle.std.specs.Prelude.{◌≡◌, ℕ, Bool, true, false, cond, ◌||◌, List, [], length, Ok, Err, codes, Option, Result, ◌==◌, nat_lt, slice_index_or}
+use Rattle.std.specs.Prelude.{◌≡◌, ℕ, Bool, true, false, cond, ◌||◌, List, [], length, Ok, Err, codes, Result, ◌==◌, nat_lt, slice_index_or}
 use Rattle.std.specs.Option.{ok_or}
 use Rattle.std.specs.Str.{bytes_eq}
 use Rattle.words.specs.declared.change.Change.{Change}
@@ -14,7 +14,7 @@ use Rattle.spelling.specs.Pieces.{pieces}
 use Rattle.lines.specs.declared.wrong.Stop.{Stop}
 use Rattle.lines.specs.declared.wrong.Stop.TheVariants.{Wrong as stop_wrong, Memory}
 use Rattle.lines.specs.declared.wrong.Wrong.{Wrong}
-use Rattle.lines.specs.declared.wrong.Wrong.TheVariants.{Call, Count, Number, Octets, Chips, Changes, Mender}
+use Rattle.lines.specs.declared.wrong.Wrong.TheVariants.{Count, Number, Octets, Chips, Changes, Mender}
 
 -- what is read, or what is wrong, is what a function answered, unless it found no memory
 abbrev pub Reads : {X Y : Type 0} → (Y → X) → Result X Wrong → Result Y Stop → Type 0

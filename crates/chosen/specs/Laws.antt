@@ -1,6 +1,6 @@
 -- Menders that are chosen keep the laws of a mender.
-use Rattle.std.specs.Prelude.{◌≡◌, ℕ, ◌≤◌, false, List, length, Some, None, Option, ◌≢◌, refl}
-use Rattle.std.proofs.Common.{sym, ap, arith, lit≤}
+use Rattle.std.specs.Prelude.{◌≡◌, ℕ, ◌≤◌, false, List, length, Some, None, Option, ◌≢◌}
+use Rattle.std.proofs.Common.{ap, arith, lit≤}
 use Rattle.std.specs.List.{AllByRecursion as All}
 use Rattle.elements.specs.Octets.{octets, Octet}
 use Rattle.polynomials.specs.Differences.{differing}

@@ -1,6 +1,5 @@
 -- The reach and the rule of one mender, or of two one after the other.
-use Rattle.std.specs.Prelude.{ℕ, max, List, Option}
-use Rattle.words.specs.declared.change.Change.{Change}
+use Rattle.std.specs.Prelude.{ℕ, max}
 use Rattle.mending.specs.Menders.{Rule, Layered}
 use Rattle.chosen.specs.declared.pile.Pile.{Pile}
 use Rattle.chosen.specs.declared.pile.Pile.TheVariants.{One, Two}

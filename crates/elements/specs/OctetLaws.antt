@@ -1,11 +1,11 @@
 -- The laws of the octets: the product is linear, and multiplication by b is a polynomial in `double`, so that any two such commute.
-use Rattle.std.specs.Prelude.{◌≡◌, refl, ℕ, zero, suc, ◌+◌, ◌*◌, ◌/◌, ◌%◌, ◌^◌, ◌<◌, ◌≤◌}
-use Rattle.std.proofs.Common.{sym, ap, ap₂, ◌∙◌, subst, mod-lt, not-suc-le-zero, le_of_suc-le-suc, zero-lt-suc, add-zero, zero-add, suc-add, arith, lit<, eq-eqb, eqb-true}
+use Rattle.std.specs.Prelude.{◌≡◌, refl, ℕ, zero, suc, ◌+◌, ◌*◌, ◌/◌, ◌%◌, ◌<◌}
+use Rattle.std.proofs.Common.{sym, ap, ap₂, ◌∙◌, mod-lt, not-suc-le-zero, le_of_suc-le-suc, zero-lt-suc, add-zero, zero-add, suc-add, arith, lit<, eq-eqb, eqb-true}
 use Rattle.std.specs.Int.Bits.{bit_xor, xor_assoc, xor_self, xor_zero_r}
 use Rattle.std.proofs.lemmas.Nat.{xor_comm, xor_lt, xor_block, xor_shr, xor_mod}
-use Rattle.elements.specs.Laws.{Compares, Closed, Ring, Inverses, Laws}
+use Rattle.elements.specs.Laws.{Compares, Closed, Ring, Laws}
 use Rattle.elements.specs.Octets.{Octet, when, double, times, product, squares, inverse, power, octets}
-use Rattle.elements.specs.Tests.{every, agree}
+use Rattle.elements.specs.Tests.{agree}
 
 -- (a + b) + (c + d) = (a + c) + (b + d)
 swap : (a b c d : ℕ) → bit_xor (bit_xor a b) (bit_xor c d) ≡ bit_xor (bit_xor a c) (bit_xor b d)

@@ -1,6 +1,6 @@
 -- A test at each number below a bound, which antt computes.
 use Rattle.std.specs.Prelude.{◌≡◌, Bool, true, false, ℕ, zero, suc, ◌+◌, ◌<◌, T, eqb}
-use Rattle.std.proofs.Common.{◌∙◌, subst, sym, arith, add-zero, zero-add, add-suc, suc-add, le_of_suc-le-suc, not-suc-le-zero, eqb→eq}
+use Rattle.std.proofs.Common.{◌∙◌, subst, sym, add-zero, zero-add, add-suc, suc-add, le_of_suc-le-suc, not-suc-le-zero, eqb→eq}
 
 abbrev pub both : Bool → Bool → Bool
 both true b = b

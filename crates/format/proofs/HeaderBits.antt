@@ -1,5 +1,5 @@
 -- The PHY header's bits, as shifts and masks.
-use Rattle.std.proofs.Common.{◌≡◌, ℕ, ◌+◌, ◌*◌, ◌/◌, ◌%◌, ◌^◌, ◌<◌, Bool, true, false, eqb, List, [], ◌∷◌, length, get_or, sym, refl, ap, ◌∙◌, ap₂, arith}
+use Rattle.std.proofs.Common.{◌≡◌, ℕ, ◌+◌, ◌*◌, ◌/◌, ◌%◌, ◌^◌, ◌<◌, Bool, true, false, eqb, List, [], ◌∷◌, length, get_or, refl, arith}
 use mir.Val.{bool_byte}
 use lib.Bits.{bit_or, bit_and, or_shifted_r}
 use Rattle.std.proofs.lemmas.Nat.{and_mask, or_lt}

@@ -1,7 +1,7 @@
 -- Octets with a sequence added.
-use Rattle.std.proofs.Common.{◌≡◌, ℕ, zero, suc, ◌+◌, ◌-◌, ◌*◌, ◌<◌, ◌≤◌, List, [], ◌∷◌, ◌++◌, length, get_or, take, drop, set, sym, refl, ap, ◌∙◌, ap₂, suc-add, zero-add, arith, take-append-drop}
-use lib.Bits.{bit_xor, xor_assoc, xor_self, xor_zero_r}
-use Rattle.std.proofs.lemmas.List.{drop_more, drop_all, append-nil}
+use Rattle.std.proofs.Common.{◌≡◌, ℕ, zero, suc, ◌+◌, ◌-◌, ◌*◌, ◌<◌, ◌≤◌, List, ◌∷◌, ◌++◌, length, get_or, take, drop, set, sym, ap, ◌∙◌, ap₂, suc-add, zero-add, arith, take-append-drop}
+use lib.Bits.{bit_xor}
+use Rattle.std.proofs.lemmas.List.{drop_more, drop_all}
 use Rattle.polynomials.proofs.Rows.{write_next}
 use Rattle.format.specs.Sequences.{advanced, after, key, mixed}
 

@@ -1,8 +1,8 @@
 -- The register's steps, as shifts and masks.
-use Rattle.std.proofs.Common.{◌≡◌, ℕ, zero, suc, ◌+◌, ◌-◌, ◌*◌, ◌/◌, ◌%◌, ◌^◌, ◌<◌, ◌≤◌, List, [], ◌∷◌, sym, refl, ap, ◌∙◌, ap₂, mul_assoc, mul-add, arith}
+use Rattle.std.proofs.Common.{◌≡◌, ℕ, suc, ◌+◌, ◌-◌, ◌*◌, ◌/◌, ◌%◌, ◌^◌, ◌<◌, ◌≤◌, sym, ap, ◌∙◌, ap₂, mul_assoc, mul-add, arith}
 use lib.Bits.{bit_and, bit_or, bit_xor, xor_add_and, or_shifted_r}
 use Rattle.std.proofs.lemmas.Nat.{and_mask, or_shifted, shl_whole, pow-add, mul-le}
-use Rattle.format.specs.Sequences.{value, next, advanced, after, drawn, key, mixed}
+use Rattle.format.specs.Sequences.{value, next, advanced, after, drawn}
 
 -- the lowest bit of a sum without carry
 low_xor : (a b : ℕ) → bit_and (bit_xor a b) 1 ≡ (a + b) % 2

@@ -3,7 +3,7 @@ use Rattle.std.specs.Prelude.{◌≡◌, ℕ, zero, suc, ◌+◌, ◌*◌, ◌<�
 use Rattle.elements.specs.Octets.{octets}
 use Rattle.polynomials.specs.Differences.{differing}
 use Rattle.coding.specs.Codewords.{Codeword}
-use Rattle.format.specs.Modes.{Row, row}
+use Rattle.format.specs.Modes.{row}
 use Rattle.format.specs.Header.{hcs, header_word}
 use Rattle.format.specs.Payload.{word_count, body_octets}
 use Rattle.format.specs.Frame.{Frame, Lawful, group, phy_of, frame_chips, frame_length}

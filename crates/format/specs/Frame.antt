@@ -1,5 +1,5 @@
 -- A frame, chip for chip.
-use Rattle.std.specs.Prelude.{◌≡◌, ℕ, zero, suc, ◌+◌, ◌*◌, ◌<◌, ◌≤◌, Bool, true, false, cond, List, [], ◌∷◌, ◌++◌, length, bit_xor}
+use Rattle.std.specs.Prelude.{◌≡◌, ℕ, zero, suc, ◌+◌, ◌*◌, ◌<◌, ◌≤◌, Bool, true, cond, List, [], ◌∷◌, ◌++◌, length, bit_xor}
 use Rattle.std.specs.List.{AllByRecursion as All}
 use Rattle.elements.specs.Octets.{Octet}
 use Rattle.format.specs.declared.mode.Mode.{Mode}
@@ -7,7 +7,7 @@ use Rattle.format.specs.declared.phy.Phy.{Phy}
 use Rattle.format.specs.Sequences.{drawn, spreader}
 use Rattle.format.specs.Bits.{line}
 use Rattle.format.specs.Codes.{code_a, inverted}
-use Rattle.format.specs.Modes.{Row, row}
+use Rattle.format.specs.Modes.{row}
 use Rattle.format.specs.Header.{header_word}
 use Rattle.format.specs.Payload.{block_count, payload_bits, repeated, blocks}
 

@@ -4,7 +4,7 @@ use Rattle.elements.specs.Bits.{bits as bit_ops}
 use Rattle.polynomials.specs.Checks.{check}
 use Rattle.coding.specs.Codewords.{parity}
 use Rattle.format.specs.declared.phy.Phy.{Phy}
-use Rattle.format.specs.Sequences.{after, mixed, scrambler}
+use Rattle.format.specs.Sequences.{mixed, scrambler}
 use Rattle.format.specs.Bits.{line, octets_of, flag, bit_of}
 
 -- the 32 bits of a PHY header as a number, the first bit lowest: 4 of the seed, 1 of the aggregation, 23 of the frame length, 4 reserved

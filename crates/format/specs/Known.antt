@@ -1,5 +1,5 @@
 -- Known pieces of the format, from outside.
-use Rattle.std.specs.Prelude.{◌≡◌, ℕ, List, [], ◌∷◌, slice_index_or}
+use Rattle.std.specs.Prelude.{◌≡◌, [], ◌∷◌, slice_index_or}
 use Rattle.elements.specs.Octets.{octets, product}
 use Rattle.polynomials.specs.Differences.{differing}
 use Rattle.coding.specs.Codewords.{parity}

@@ -1,5 +1,5 @@
 -- What is read from a window, a list of chips that begins where a frame does.
-use Rattle.std.specs.Prelude.{ℕ, zero, suc, ◌+◌, ◌-◌, ◌*◌, ◌/◌, ◌%◌, min, Bool, true, false, cond, List, [], ◌∷◌, ◌++◌, map, length, take, drop, Some, None, Option, nat_le, slice_index}
+use Rattle.std.specs.Prelude.{ℕ, zero, suc, ◌+◌, ◌-◌, ◌*◌, ◌/◌, ◌%◌, min, Bool, cond, List, [], ◌∷◌, ◌++◌, map, length, take, drop, Some, None, Option, nat_le, slice_index}
 use Rattle.std.specs.List.{range_with_len}
 use Rattle.elements.specs.Octets.{octets}
 use Rattle.polynomials.specs.Differences.{differing}
@@ -10,7 +10,7 @@ use Rattle.format.specs.declared.phy.Phy.{Phy}
 use Rattle.format.specs.Sequences.{value, drawn, mixed, after, scrambler, spreader}
 use Rattle.format.specs.Bits.{octets_of}
 use Rattle.format.specs.Codes.{code_a, code_b, inverted}
-use Rattle.format.specs.Modes.{Row, row}
+use Rattle.format.specs.Modes.{row}
 use Rattle.format.specs.Header.{unpacked, joined}
 use Rattle.format.specs.Frame.{added, header_place, payload_place}
 

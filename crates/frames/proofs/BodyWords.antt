@@ -1,8 +1,8 @@
 -- The body's words, one behind the other.
-use Rattle.std.proofs.Common.{◌≡◌, ℕ, zero, suc, ◌+◌, ◌-◌, ◌*◌, ◌/◌, ◌<◌, ◌≤◌, min, Bool, true, cond, ◌&&◌, List, [], ◌∷◌, ◌++◌, length, take, drop, replicate, sym, refl, ap, ◌∙◌, ap₂, ⊎_elim, add-one, arith}
+use Rattle.std.proofs.Common.{◌≡◌, ℕ, zero, suc, ◌+◌, ◌-◌, ◌*◌, ◌<◌, ◌≤◌, min, true, cond, ◌&&◌, List, [], ◌++◌, length, take, drop, replicate, sym, refl, ap, ◌∙◌, ap₂, ⊎_elim, add-one, arith}
 use lib.Seq.{paste}
 use borrow.Rule.Slice.PartMut.{put_mid}
-use Rattle.std.proofs.lemmas.List.{length-append, append_assoc, append-nil, take_all, drop_all, drop-drop, length-drop, length-take, length-take-le, length-replicate, drop-replicate}
+use Rattle.std.proofs.lemmas.List.{length-append, append_assoc, append-nil, take_all, drop_all, drop-drop, length-drop, length-take-le, length-replicate, drop-replicate}
 use Rattle.std.proofs.lemmas.Bool.{le-leb, and_from, cond-true, cases_lt}
 use Rattle.coding.specs.Codewords.{parity}
 use Rattle.coding.proofs.ParityFacts.{length_parity}

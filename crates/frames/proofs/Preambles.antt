@@ -5,7 +5,7 @@ use Rattle.std.proofs.lemmas.List.{append_assoc, append-nil, take_more, take_all
 use Rattle.format.specs.declared.mode.Mode.{Mode}
 use Rattle.format.specs.declared.mode.Mode.TheVariants.{M1, M2, M3, M4, M5, M6, M7}
 use Rattle.format.specs.Codes.{code_a}
-use Rattle.format.specs.Modes.{Row, row}
+use Rattle.format.specs.Modes.{row}
 use Rattle.format.specs.Frame.{signed, all_signed, copies, group, preamble}
 use Rattle.format.proofs.Lengths.{length_signed, length_all_signed, length_copies, length_code_a, length_group}
 use Rattle.frames.proofs.Pastes.{paste_behind}

@@ -1,5 +1,5 @@
 -- Stuff bits: zeros with the sequence added are the sequence.
-use Rattle.std.proofs.Common.{◌≡◌, ℕ, zero, suc, ◌+◌, ◌-◌, ◌*◌, ◌/◌, ◌%◌, ◌<◌, ◌≤◌, List, [], ◌∷◌, ◌++◌, length, take, drop, replicate, sym, refl, ap, ◌∙◌, ap₂, suc-add, zero-add, arith}
+use Rattle.std.proofs.Common.{◌≡◌, ℕ, zero, suc, ◌+◌, ◌-◌, ◌*◌, ◌/◌, ◌%◌, ◌≤◌, List, [], ◌∷◌, ◌++◌, length, drop, replicate, sym, refl, ap, ◌∙◌, ap₂, suc-add, zero-add, arith}
 use Rattle.std.proofs.lemmas.List.{length-append, append_assoc, take-append-le, drop-append-le, length-drop}
 use Rattle.format.specs.Sequences.{value, next, advanced, after, drawn, key, mixed}
 use Rattle.format.specs.Bits.{bits, line}

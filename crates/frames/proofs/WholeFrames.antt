@@ -1,10 +1,10 @@
 -- A whole frame, put together from its parts.
-use Rattle.std.proofs.Common.{◌≡◌, ℕ, ◌+◌, ◌*◌, ◌≤◌, List, [], ◌∷◌, ◌++◌, length, drop, sym, refl, ap, ◌∙◌, ap₂, zero-add, arith}
+use Rattle.std.proofs.Common.{◌≡◌, ℕ, ◌+◌, ◌*◌, List, ◌++◌, length, drop, sym, ap, ◌∙◌, ap₂, zero-add, arith}
 use lib.Seq.{paste}
 use Rattle.std.proofs.lemmas.List.Edits.{paste_all}
 use Rattle.std.proofs.lemmas.List.{length-append, append_assoc}
 use Rattle.format.specs.declared.mode.Mode.{Mode}
-use Rattle.format.specs.Modes.{Row, row}
+use Rattle.format.specs.Modes.{row}
 use Rattle.format.specs.Sequences.{after, drawn, mixed, scrambler}
 use Rattle.format.specs.Bits.{line}
 use Rattle.format.specs.Header.{header_word}

@@ -1,10 +1,10 @@
 -- Two menders, one after the other, keep the laws of a mender, with the larger of their reaches.
-use Rattle.std.specs.Prelude.{◌≡◌, ℕ, ◌<◌, ◌≤◌, max, Bool, true, false, cond, ◌&&◌, List, length, Some, None, Option, ◌==◌, ◌≢◌, nat_lt}
+use Rattle.std.specs.Prelude.{◌≡◌, ℕ, ◌<◌, ◌≤◌, max, Bool, true, false, cond, List, length, Some, None, Option, ◌==◌, ◌≢◌, nat_lt}
 use Rattle.std.proofs.Math.Path.{refl}
 use Rattle.std.proofs.Common.{sym, ap, ap₂, subst, ◌∙◌, arith}
 use Rattle.std.proofs.Math.Logic.{⊎_elim}
 use Rattle.std.specs.List.{AllByRecursion as All}
-use Rattle.std.proofs.lemmas.Bool.{both_ways, cases_lt, ne_eqb, le-ltb, ltb-false, eqb-false}
+use Rattle.std.proofs.lemmas.Bool.{both_ways, cases_lt, ne_eqb, le-ltb, ltb-false}
 use Rattle.elements.specs.Octets.{octets, Octet}
 use Rattle.polynomials.specs.Differences.{differing}
 use Rattle.coding.specs.Codewords.{Codeword}

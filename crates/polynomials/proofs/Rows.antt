@@ -3,7 +3,7 @@ use Rattle.std.proofs.Common.{◌≡◌, ℕ, ◌+◌, ◌<◌, ◌≤◌, Bool,
 use Rattle.std.proofs.lemmas.List.{drop_more, drop_all, take_more_set, drop-set-lt, append_assoc}
 use Rattle.elements.specs.Laws.{Operations}
 use Rattle.polynomials.specs.Differences.{differing}
-use Rattle.polynomials.specs.Division.{less, divided}
+use Rattle.polynomials.specs.Division.{less}
 
 -- what is left of a row, at an element that was read
 pub drop_read : {E : Type 0} (a : List E) (i : ℕ) (x : E) → i < length a → x ≡ get_or a i x → drop i a ≡ x ∷ drop (i + 1) a

@@ -1,5 +1,5 @@
 -- A build that the writer of frames refuses is turned down by the first row that applies.
-use Rattle.std.proofs.Common.{◌≡◌, ℕ, ◌%◌, Bool, true, false, cond, eqb, leb, List, length, Some, None, Ok, Err, Option, Result, sym, refl, ap, ◌∙◌, arith}
+use Rattle.std.proofs.Common.{◌≡◌, ℕ, Bool, true, false, cond, eqb, leb, List, length, Some, None, Ok, Err, Option, Result, ap, ◌∙◌, arith}
 use Rattle.format.specs.declared.fault.DoorFault.{DoorFault}
 use Rattle.format.specs.declared.fault.DoorFault.TheVariants.{Mac, Body, Room}
 use Rattle.format.specs.declared.mode.Mode.{Mode}
@@ -7,7 +7,7 @@ use Rattle.format.specs.Modes.{mode_of}
 use Rattle.format.specs.Frame.{frame_length}
 use Rattle.frames.specs.Writing.{sized, roomed, answer_by, chips_by, write_answer, write_chips}
 use Rattle.faults.specs.declared.fault.Fault.TheVariants.{Door}
-use Rattle.account.specs.Builds.{Build, NotBuilt, ByRoom, ByNumber, room_row, BuiltAs}
+use Rattle.account.specs.Builds.{Build, NotBuilt, ByRoom, ByNumber, BuiltAs}
 
 module _ (seed : ℕ) (b : Build) (e : DoorFault) (answers : b.answer ≡ Err (Door e)) where
   -- what the writer did with the chips, by the mode that it admitted

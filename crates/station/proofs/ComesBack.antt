@@ -1,5 +1,5 @@
 -- In a lawful run a frame's own chips are delivered as that frame.
-use Rattle.std.proofs.Common.{◌≡◌, ℕ, List, sym, subst₂}
+use Rattle.std.proofs.Common.{ℕ, List, sym, subst₂}
 use Rattle.mending.specs.Menders.{Rule}
 use Rattle.format.specs.Fits.{Fits}
 use Rattle.format.proofs.ReadsBack.{fits_own}

@@ -1,18 +1,17 @@
 -- The law of a station over whole runs.
-use Rattle.std.specs.Prelude.{◌≡◌, ℕ, ◌+◌, ◌%◌, min, Bool, true, cond, ◌&&◌, List, [], ◌∷◌, ◌++◌, Some, None, Ok, Err, Option, Result, ◌==◌, nat_le}
+use Rattle.std.specs.Prelude.{◌≡◌, ℕ, ◌+◌, ◌%◌, min, cond, ◌&&◌, List, [], ◌∷◌, ◌++◌, Some, None, Ok, Err, Result, ◌==◌, nat_le}
 use Rattle.mending.specs.Menders.{Rule}
-use Rattle.format.specs.Modes.{Row as ModeRow, row}
+use Rattle.format.specs.Modes.{row}
 use Rattle.format.specs.Frame.{Frame, Lawful, frame_chips}
 use Rattle.format.specs.Fits.{octets_apart}
 use Rattle.faults.specs.declared.delivery.Built.{Built}
 use Rattle.faults.specs.declared.delivery.Delivery.{Delivery}
 use Rattle.faults.specs.declared.fault.Fault.{Fault}
-use Rattle.station.specs.declared.tally.Row.{Row}
 use Rattle.account.specs.Asks.{Asked, Chain}
 use Rattle.faults.specs.Faults.{fault_refusal}
 use Rattle.station.specs.Tallies.{most}
 use Rattle.account.specs.Rows.{door_row}
-use Rattle.account.specs.Builds.{Build, BuiltAs}
+use Rattle.account.specs.Builds.{BuiltAs}
 use Rattle.account.specs.Reads.{Read}
 use Rattle.account.specs.Claims.{frame_read, ReadRight}
 use Rattle.station.specs.Runs.{Call, build, read, ask_mode, ask_refusal}

@@ -1,7 +1,7 @@
 -- The tally's counts.
 use Rattle.std.specs.Prelude.{ℕ, ◌+◌, ◌-◌, ◌^◌, min, cond, ◌&&◌, replicate, Some, None, Option, nat_le, slice_index, slice_index_or, slice_set}
 use Rattle.format.specs.declared.mode.Mode.{Mode}
-use Rattle.format.specs.Modes.{Row as ModeRow, row}
+use Rattle.format.specs.Modes.{row}
 use Rattle.station.specs.declared.tally.Row.{Row}
 use Rattle.station.specs.declared.tally.Tally.{Tally}
 

@@ -1,5 +1,5 @@
 -- Which windows are refused, and where the parts stand in them.
-use Rattle.std.specs.Prelude.{◌≡◌, ℕ, ◌+◌, Bool, true, cond, ◌||◌, List, [], ◌∷◌, length, Some, None, Option, nat_le, nat_lt}
+use Rattle.std.specs.Prelude.{◌≡◌, ℕ, ◌+◌, Bool, true, cond, ◌||◌, List, length, Some, None, Option, nat_le, nat_lt}
 use Rattle.format.specs.declared.fault.DoorFault.{DoorFault}
 use Rattle.format.specs.declared.fault.DoorFault.TheVariants.{Mode as NoMode, Channels, Window}
 use Rattle.format.specs.declared.mode.Mode.{Mode}

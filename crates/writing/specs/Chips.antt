@@ -1,5 +1,5 @@
 -- Chips as digits.
-use Rattle.std.specs.Prelude.{ℕ, ◌+◌, cond, List, [], ◌∷◌, ◌++◌, map, length, codes, ◌==◌, nat_lt}
+use Rattle.std.specs.Prelude.{ℕ, ◌+◌, cond, List, map, length, codes, ◌==◌, nat_lt}
 
 -- how chips are written; what is above 9 has no digit
 abbrev pub chip_char : ℕ → ℕ

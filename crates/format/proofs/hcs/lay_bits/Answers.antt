@@ -1,4 +1,4 @@
-use Rattle.std.proofs.Common.{◌≡◌, ◌*◌, ◌<◌, map, length, arith}
+use Rattle.std.proofs.Common.{◌*◌, ◌<◌, map, length, arith}
 use Rattle.std.proofs.lemmas.List.{length-map}
 use Rattle.polynomials.proofs.Streams.{load_more, load_all}
 use Rattle.format.specs.Bits.{flag, line}

@@ -1,4 +1,4 @@
-use Rattle.std.proofs.Common.{◌≡◌, ◌<◌, get_or, arith, rules}
+use Rattle.std.proofs.Common.{◌<◌, get_or, arith, rules}
 use Rattle.format.proofs.HeaderBits.{joined_code, joined_below, unpacked_code}
 use Rattle.format.proofs.header.unpack.Goals as goal
 

@@ -1,6 +1,6 @@
 use Rattle.std.proofs.Common.{length, refl, ap, ◌∙◌}
 use Rattle.format.proofs.Lengths.{length_phy_octets}
-use Rattle.format.specs.Header.{phy_octets, header_message}
+use Rattle.format.specs.Header.{header_message}
 use Rattle.frames.proofs.HeaderWords.{message_done}
 use Rattle.frames.proofs.header.message_of.Goals as goal
 

@@ -1,4 +1,4 @@
-use Rattle.std.proofs.Common.{◌+◌, ◌*◌, ◌≤◌, length, arith}
+use Rattle.std.proofs.Common.{arith}
 use Rattle.format.specs.Bits.{line}
 use Rattle.format.proofs.Lengths.{length_line}
 use Rattle.frames.proofs.BlockChips.{pilot_at, data_at}

@@ -1,7 +1,7 @@
-use Rattle.std.proofs.Common.{◌≡◌, ◌*◌, length, ap, ◌∙◌, ap₂, arith}
+use Rattle.std.proofs.Common.{◌*◌, length, ap, ◌∙◌, ap₂, arith}
 use lib.Seq.{paste}
 use Rattle.format.specs.Bits.{line}
-use Rattle.format.specs.Modes.{Row, row}
+use Rattle.format.specs.Modes.{row}
 use Rattle.format.specs.Payload.{block_count, blocks}
 use Rattle.frames.proofs.StuffBits.{blocks_carried}
 use Rattle.frames.proofs.payload.write_payload.Goals as goal

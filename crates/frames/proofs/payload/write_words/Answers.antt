@@ -1,4 +1,4 @@
-use Rattle.std.proofs.Common.{[], length, arith}
+use Rattle.std.proofs.Common.{[], arith}
 use Rattle.std.proofs.lemmas.List.Edits.{paste_none}
 use Rattle.format.specs.Payload.{coded}
 use Rattle.frames.proofs.BodyWords.{words_more, words_all}

@@ -1,9 +1,9 @@
-use Rattle.std.proofs.Common.{◌≡◌, ℕ, ◌*◌, ◌<◌, ◌≤◌, List, length, Ok, sym, ap, ◌∙◌, arith, rules}
+use Rattle.std.proofs.Common.{◌≡◌, ℕ, ◌<◌, ◌≤◌, List, length, Ok, ap, ◌∙◌, arith, rules}
 use Rattle.format.specs.Modes.{mode_of}
-use Rattle.format.specs.Sequences.{after, mixed, scrambler}
+use Rattle.format.specs.Sequences.{mixed}
 use Rattle.format.specs.Frame.{frame_length}
 use Rattle.format.proofs.Lengths.{length_mixed}
-use Rattle.frames.specs.Writing.{sized, roomed, frame_of, answer_by, chips_by}
+use Rattle.frames.specs.Writing.{sized, frame_of, answer_by, chips_by}
 use Rattle.frames.proofs.Admissions.{sized_fits, roomed_yes, roomed_no}
 use Rattle.frames.proofs.WholeFrames.{frame_done, restored}
 use Rattle.frames.proofs.writer.write_frame.Goals as goal

@@ -1,6 +1,5 @@
-use Rattle.std.proofs.Common.{◌≡◌, sym, ◌∙◌, subst, arith}
+use Rattle.std.proofs.Common.{sym, arith}
 use Rattle.std.proofs.lemmas.Result.{err_from_is_err_and}
-use Rattle.mending.specs.Mending.{Mended}
 use Rattle.mending.proofs.Mendings.{mends, refuses}
 use Rattle.mending.proofs.mending.mend.Goals as goal
 

@@ -1,6 +1,6 @@
-use Rattle.std.proofs.Common.{◌≡◌, ◌+◌, true, length, replicate, Some, sym, refl, ap, ◌∙◌, subst, arith}
+use Rattle.std.proofs.Common.{◌≡◌, ◌+◌, true, length, replicate, Some, sym, ap, ◌∙◌, subst, arith}
 use Rattle.std.proofs.lemmas.Bool.{eq-eqb, and_from, cond-true}
-use Rattle.polynomials.specs.Checks.{check, room, Checks}
+use Rattle.polynomials.specs.Checks.{room, Checks}
 use Rattle.polynomials.proofs.Streams.{check_remains}
 use Rattle.polynomials.proofs.check.checksum.Goals as goal
 

@@ -1,4 +1,4 @@
-use Rattle.std.proofs.Common.{◌<◌, length, arith}
+use Rattle.std.proofs.Common.{arith}
 use Rattle.polynomials.proofs.Streams.{load_more, load_all}
 use Rattle.polynomials.proofs.check.load_generator.Goals as goal
 

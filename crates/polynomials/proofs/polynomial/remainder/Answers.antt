@@ -1,6 +1,5 @@
-use Rattle.std.proofs.Common.{◌≡◌, ◌-◌, ◌<◌, false, ◌∷◌, length, take, drop, sym, ap, ◌∙◌, ap₂, arith, rules}
+use Rattle.std.proofs.Common.{◌≡◌, ◌-◌, ◌<◌, false, ◌∷◌, length, take, drop, sym, ap, ◌∙◌, arith, rules}
 use Rattle.std.proofs.lemmas.Slice.{first_rest}
-use Rattle.polynomials.specs.Division.{divided, division}
 use Rattle.polynomials.proofs.Divisions.{divided_next, division_is, divided_done}
 use Rattle.polynomials.proofs.Remainders.{left_result}
 use Rattle.polynomials.proofs.polynomial.remainder.Goals as goal

@@ -1,4 +1,4 @@
-use Rattle.std.proofs.Common.{◌≡◌, ◌<◌, ◌++◌, length, take, drop, sym, ap, ◌∙◌, ap₂, arith, take-append-drop}
+use Rattle.std.proofs.Common.{◌<◌, ◌++◌, length, take, drop, sym, ap, ◌∙◌, arith, take-append-drop}
 use Rattle.std.proofs.lemmas.List.{drop_all}
 use Rattle.polynomials.specs.Division.{less}
 use Rattle.polynomials.proofs.Rows.{less_next}

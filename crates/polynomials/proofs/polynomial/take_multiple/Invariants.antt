@@ -1,4 +1,4 @@
-use Rattle.std.proofs.Common.{◌≡◌, ◌≤◌, ◌++◌, length, take, drop}
+use Rattle.std.proofs.Common.{◌≡◌, ◌++◌, take, drop}
 use Rattle.polynomials.specs.Division.{less}
 use Rattle.polynomials.proofs.polynomial.take_multiple.Given as goal
 

@@ -1,4 +1,4 @@
-use Rattle.std.proofs.Common.{◌≡◌, length, ap, arith}
+use Rattle.std.proofs.Common.{length, arith}
 use Rattle.std.proofs.lemmas.List.{at_drop_all}
 use Rattle.spelling.specs.Pieces.{pieces}
 use Rattle.spelling.proofs.Cuts.{count_here, count_on}

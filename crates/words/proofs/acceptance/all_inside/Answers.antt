@@ -1,6 +1,6 @@
-use Rattle.std.proofs.Common.{◌≡◌, sym, ◌∙◌}
+use Rattle.std.proofs.Common.{sym, ◌∙◌}
 use Rattle.std.proofs.lemmas.List.{at_drop_all}
-use Rattle.words.specs.Changes.{inside, named, once, nonzero}
+use Rattle.words.specs.Changes.{inside}
 use Rattle.words.proofs.Scans.{inside_more, inside_stop}
 use Rattle.words.proofs.acceptance.all_inside.Goals as goal
 

@@ -1,6 +1,6 @@
-use Rattle.std.proofs.Common.{◌≡◌, sym, ◌∙◌}
+use Rattle.std.proofs.Common.{sym, ◌∙◌}
 use Rattle.std.proofs.lemmas.List.{at_drop_all}
-use Rattle.words.specs.Changes.{inside, named, once, nonzero}
+use Rattle.words.specs.Changes.{nonzero}
 use Rattle.words.proofs.Scans.{nonzero_more, nonzero_stop}
 use Rattle.words.proofs.acceptance.all_nonzero.Goals as goal
 

@@ -1,4 +1,4 @@
-use Rattle.std.proofs.Common.{◌≡◌, ◌+◌, sym, ap, ◌∙◌}
+use Rattle.std.proofs.Common.{◌+◌, sym, ap, ◌∙◌}
 use Rattle.std.proofs.lemmas.List.{at_drop_all, take_rest}
 use Rattle.words.specs.Changes.{named, once}
 use Rattle.words.proofs.Scans.{at, once_more, once_stop}

@@ -1,6 +1,6 @@
-use Rattle.std.proofs.Common.{◌≡◌, sym, ◌∙◌}
+use Rattle.std.proofs.Common.{sym, ◌∙◌}
 use Rattle.std.proofs.lemmas.List.{at_drop_all}
-use Rattle.words.specs.Changes.{inside, named, once, nonzero}
+use Rattle.words.specs.Changes.{named}
 use Rattle.words.proofs.Scans.{named_more, named_stop}
 use Rattle.words.proofs.acceptance.is_named.Goals as goal
 

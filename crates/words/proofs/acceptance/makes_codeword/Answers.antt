@@ -1,4 +1,4 @@
-use Rattle.std.proofs.Common.{◌≡◌, sym, ap, ◌∙◌, arith}
+use Rattle.std.proofs.Common.{sym, ap, ◌∙◌, arith}
 use Rattle.words.specs.Coder.{is_codeword}
 use Rattle.words.specs.Changes.{changed}
 use Rattle.words.proofs.Scans.{length_changed, too_long}

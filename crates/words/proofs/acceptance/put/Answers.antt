@@ -1,4 +1,4 @@
-use Rattle.std.proofs.Common.{◌≡◌, length, sym, ◌∙◌, arith}
+use Rattle.std.proofs.Common.{length, sym, ◌∙◌, arith}
 use Rattle.words.proofs.Scans.{inside_here, changed_more, changed_none}
 use Rattle.words.proofs.acceptance.put.Goals as goal
 

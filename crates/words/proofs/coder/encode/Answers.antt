@@ -1,4 +1,4 @@
-use Rattle.std.proofs.Common.{◌≡◌, true, ◌&&◌, eqb, length, replicate, sym, refl, ap, ◌∙◌, arith}
+use Rattle.std.proofs.Common.{◌≡◌, true, ◌&&◌, eqb, length, replicate, sym, refl, ◌∙◌, arith}
 use Rattle.std.proofs.lemmas.Bool.{eq-eqb, le-leb, and_from, cond-true}
 use Rattle.polynomials.specs.Checks.{room}
 use Rattle.coding.specs.Codewords.{parity}

@@ -1,7 +1,7 @@
-use mathlib.Core.Path.{◌≡◌, refl, sym, ap, ap₂, ◌∙◌}
+use mathlib.Core.Path.{◌≡◌, sym, ap, ap₂, ◌∙◌}
 use Prim.Native.Nat.{◌+◌, ◌-◌}
 use native.Mathlib.Omega.{arith}
-use Rattle.elements.specs.Octets.{double, power, product, inverse}
+use Rattle.elements.specs.Octets.{power, product, inverse}
 use Rattle.elements.specs.OctetLaws.{inverse_zero, inverse_is, product_power, power_255}
 use Rattle.elements.proofs.octet.U8Element.inv.Goals as goal
 

@@ -1,5 +1,5 @@
-use Rattle.std.proofs.Common.{◌≡◌, ◌+◌, ◌-◌, ◌*◌, ◌^◌, refl, ap, ◌∙◌, arith}
-use Rattle.format.specs.Sequences.{value, drawn, after, key}
+use Rattle.std.proofs.Common.{refl, arith}
+use Rattle.format.specs.Sequences.{key}
 use Rattle.format.proofs.Registers.{octet_more, octet_done, after_more, after_done}
 use Rattle.format.proofs.sequence.Register.octet.Goals as goal
 
