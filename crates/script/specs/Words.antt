@@ -1,5 +1,5 @@
 -- What the calls on words answer.
-use Rattle.std.specs.Prelude.{◌≡◌, ℕ, zero, suc, Bool, cond, ◌&&◌, List, ◌++◌, Some, None, Ok, Err, codes, decimal, Option, Result, ◌==◌}
+use Rattle.std.specs.Prelude.{◌≡◌, ℕ, zero, suc, cond, ◌&&◌, List, ◌++◌, Some, None, Ok, Err, codes, decimal, Option, Result, ◌==◌}
 use Rattle.coding.specs.Codewords.{parity}
 use Rattle.words.specs.declared.change.Change.{Change}
 use Rattle.words.specs.declared.fault.CoderFault.TheVariants.{Lengths}

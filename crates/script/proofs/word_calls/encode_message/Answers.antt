@@ -1,7 +1,6 @@
-use Rattle.std.proofs.Common.{◌≡◌, ℕ, Bool, cond, List, length, codes, sym, ap, ◌∙◌, ap₂, arith}
+use Rattle.std.proofs.Common.{◌≡◌, ℕ, cond, List, length, codes, sym, ap, ◌∙◌, ap₂, arith}
 use Rattle.std.specs.Str.{bytes_eq}
 use Rattle.std.proofs.lemmas.List.{with_items_is}
-use Rattle.buffers.specs.declared.buffers.Buffers.{Buffers}
 use Rattle.buffers.specs.declared.buffers.Buffers.TheVariants.{Untouched, Other}
 use Rattle.answers.specs.Texts.{named_text}
 use Rattle.script.specs.Words.{encode_text}

@@ -1,4 +1,4 @@
-use Rattle.std.proofs.Common.{◌≡◌, Err, string_bytes, sym, ◌∙◌, subst}
+use Rattle.std.proofs.Common.{Err, string_bytes, sym, ◌∙◌, subst}
 use Rattle.lines.specs.declared.wrong.Stop.{Stop}
 use Rattle.lines.specs.declared.wrong.Stop.TheVariants.{Wrong as stop_wrong}
 use Rattle.calls.specs.Calls.{call_said}
@@ -6,14 +6,14 @@ use Rattle.script.specs.Performed.{Answers}
 use Rattle.script.proofs.Obeying.{answered, wrong}
 use Rattle.script.proofs.desk.Desk.obey.Goals as goal
 
-pub returns-in_ok-write_answer : goal.returns-in_ok-write_answer
-returns-in_ok-write_answer c =
+pub returns-in_ok-write_answer-in-Ok : goal.returns-in_ok-write_answer-in-Ok
+returns-in_ok-write_answer-in-Ok c =
     answered c.args.number c.args.line.now c.call_part.result.now (string_bytes c.args.out.now) (string_bytes c.write_answer.new.out)
-    (sym c.is_passed_over.ensures ∙ c.if-is_passed_over.false) c.call_part.ensures c.in-Ok.answer c.in-Ok.ensures c.in_ok-write_answer.ensures
+    (sym c.is_passed_over.ensures ∙ c.if-is_passed_over.false) c.call_part.ensures c.in-Ok.answer c.in-Ok.ensures c.in_ok-write_answer-in-Ok.ensures
 
-pub returns-in_ok-write_wrong : goal.returns-in_ok-write_wrong
-returns-in_ok-write_wrong c =
+pub returns-in_ok-write_wrong-in-Wrong : goal.returns-in_ok-write_wrong-in-Wrong
+returns-in_ok-write_wrong-in-Wrong c =
     let said = call_said c.call_part.result.now in
     let told : Answers said (Err (stop_wrong c.in-Wrong.wrong)) = subst (λ (e : Stop). Answers said (Err e)) c.in-Wrong.is c.in-Err.ensures in
     wrong c.args.number c.args.line.now c.call_part.result.now (string_bytes c.args.out.now) (string_bytes c.write_wrong.new.out)
-    (sym c.is_passed_over.ensures ∙ c.if-is_passed_over.false) c.call_part.ensures c.in-Wrong.wrong told c.in_ok-write_wrong.ensures
+    (sym c.is_passed_over.ensures ∙ c.if-is_passed_over.false) c.call_part.ensures c.in-Wrong.wrong told c.in_ok-write_wrong-in-Wrong.ensures
