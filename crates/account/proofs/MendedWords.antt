@@ -1,6 +1,6 @@
 -- What a mender that keeps its laws makes of words: what is mended is a codeword near the word read, and a codeword within the reach is found.
 use Rattle.std.proofs.Common.{◌≡◌, ℕ, suc, ◌+◌, ◌≤◌, Bool, true, false, ◌≢◌, List, [], ◌∷◌, length, Some, None, Ok, Err, Option, Result, sym, refl, ap, ◌∙◌, subst, subst₂, arith}
-use Rattle.std.specs.List.{AllZip, AllByRecursion as All}
+use Rattle.std.specs.List.{AllZip, AllByRecursion as Each}
 use Rattle.std.proofs.lemmas.Bool.{both_ways}
 use Rattle.elements.specs.Octets.{octets, Octet}
 use Rattle.polynomials.specs.Differences.{differing}
@@ -62,7 +62,7 @@ module _ {M : Type 0} (reach : M → ℕ) (rule : Rule M) (laws : Mends reach ru
     pub right : (k : ℕ) → n ≡ Ok k → Near 8 w v × (k ≡ differing octets w v)
     pub finds : (c : List ℕ) → Near (reach s) w c → (k : ℕ) × (n ≡ Ok k) × (v ≡ c)
 
-  module _ (s u : M) (w : List ℕ) (ok : All Octet w) where
+  module _ (s u : M) (w : List ℕ) (ok : Each Octet w) where
     accepted : (cs : List Change) (o : Option WordFault) → fault_of w cs ≡ o → rule s w (Some cs) u → (k : ℕ) → counted_by o (length cs) ≡ Ok k
         → Near 8 w (mended_by o w cs) × (k ≡ differing octets w (mended_by o w cs))
     accepted cs (Some e) q asked k z = let z : ◌≡◌ {A = ℕ} 0 1 = cc in absurd (omega arith)
@@ -85,7 +85,7 @@ module _ {M : Type 0} (reach : M → ℕ) (rule : Rule M) (laws : Mends reach ru
         let none = difference_accepted w c f.0 n.coded f.2 (omega arith) (omega (arith, n.near)) in
         (length f.0, ap (counted w) f.1 ∙ ap (λ o. counted_by o (length f.0)) none, ap (settled w) f.1 ∙ ap (λ o. mended_by o w f.0) none ∙ f.2.turns)
 
-  module _ (s t : M) (w : List ℕ) (ok : All Octet w) (asks : List Asked) (n : Result ℕ WordFault) (v : List ℕ) (rest : List Asked) where
+  module _ (s t : M) (w : List ℕ) (ok : Each Octet w) (asks : List Asked) (n : Result ℕ WordFault) (v : List ℕ) (rest : List Asked) where
     mended_by_test : (b : Bool) → is_codeword w ≡ b → OneBy b w asks n v rest → Chain rule s asks t → Mended s t w n v rest
     mended_by_test true e one chain =
         let code = passes w ok e in
@@ -128,7 +128,7 @@ module _ {M : Type 0} (reach : M → ℕ) (rule : Rule M) (laws : Mends reach ru
         ];
       }
 
-  pub mended_all : (ws : List (List ℕ)) (k : ℕ) (s t : M) (asks : List Asked) (r : Result ℕ Unmended) (vs : List (List ℕ)) (rest : List Asked) → All (All Octet) ws
+  pub mended_all : (ws : List (List ℕ)) (k : ℕ) (s t : M) (asks : List Asked) (r : Result ℕ Unmended) (vs : List (List ℕ)) (rest : List Asked) → Each (Each Octet) ws
       → Words k ws asks r vs rest → Chain rule s asks t → AllMended (reach s) ws r vs
   mended_all [] k s t asks r vs rest ok x chain =
       subst₂ (AllMended (reach s) []) (sym x.0) (sym x.1) (record { right = λ n z. (tt, cc); finds = λ cs h. (0, refl) })

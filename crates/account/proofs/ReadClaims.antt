@@ -1,6 +1,6 @@
 -- A read that is accounted for, by a mender that keeps its laws, is right: only one frame is delivered, and within the reach it must be.
 use Rattle.std.proofs.Common.{◌≡◌, ℕ, ◌+◌, ◌<◌, ◌≤◌, Bool, true, false, eqb, leb, ◌⊎◌, List, [], ◌++◌, map, length, take, Some, None, Ok, Err, Option, Result, sym, refl, ap, ◌∙◌, subst, ap₂, subst₂, inl, inr, ⊎_elim, arith}
-use Rattle.std.specs.List.{range_with_len, AllZip, AllByRecursion as All}
+use Rattle.std.specs.List.{range_with_len, AllZip, AllByRecursion as Each}
 use Rattle.std.proofs.lemmas.List.{take_at}
 use Rattle.std.proofs.lemmas.Bool.{both_ways, leb-true, le-leb, eq-eqb}
 use Rattle.elements.specs.Octets.{octets}
@@ -110,7 +110,7 @@ module _ {M : Type 0} (reach : M → ℕ) (rule : Rule M) (laws : Mends reach ru
   refuse : (e : Fault) → r.answer ≡ Err e → ((f : Frame) → Lawful f → Fits (reach s) n f w → ⊥) → Outcome
   refuse e answers none = inr (e, answers, λ _. none)
 
-  module _ (chips : All Bit w) (m : Mode) (told : preamble_row n w ≡ Ok m) (h : List ℕ) (asks : List Asked) where
+  module _ (chips : Each Bit w) (m : Mode) (told : preamble_row n w ≡ Ok m) (h : List ℕ) (asks : List Asked) where
     abbrev L : ℕ
     L = (phy_read h).length
 
@@ -156,7 +156,7 @@ module _ {M : Type 0} (reach : M → ℕ) (rule : Rule M) (laws : Mends reach ru
         refuse _ by.0.answers λ f l p. let z : ◌≡◌ {A = ℕ} 0 1 = cc (mended.finds (own_header f) (header_near f l (reach s) n w p)).1 in omega arith
     by_word (Ok j) mended by = by_header j mended _ refl by
 
-  by_mode : All Bit w → (o : Result Mode PreambleFault) → preamble_row n w ≡ o → ByMode r o → Outcome
+  by_mode : Each Bit w → (o : Result Mode PreambleFault) → preamble_row n w ≡ o → ByMode r o → Outcome
   by_mode chips (Err e) told by = refuse _ by.0.answers λ f l p. let z : ◌≡◌ {A = ℕ} 0 1 = cc (mode_fits (reach s) n f w p) in omega arith
   by_mode chips (Ok m) told by =
       let (j, h, asks, one, rest) = by in

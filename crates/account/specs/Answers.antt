@@ -1,6 +1,6 @@
 -- What the parts of a read answer.
 use Rattle.std.specs.Prelude.{◌≡◌, ℕ, ◌+◌, ◌-◌, ◌*◌, ◌≤◌, Bool, true, false, List, [], ◌++◌, length, take, drop, replicate, Some, None, Ok, Err, Option, Result, nat_le}
-use Rattle.std.specs.List.{AllByRecursion as All}
+use Rattle.std.specs.List.{AllByRecursion as Each}
 use Rattle.words.specs.declared.fault.WordFault.{WordFault}
 use Rattle.mending.specs.Menders.{Rule}
 use Rattle.mending.specs.Mending.{Mended}
@@ -114,7 +114,7 @@ pub record Passed (n : ℕ) (w body mac : List ℕ) : Type 0 where
   pub ten : length mac ≡ 10
   pub long : payload_place n ≤ length w
   pub short : length w ≤ 65536
-  pub chips : All Chip w
+  pub chips : Each Chip w
 
 -- the two buffers hold zeros
 pub record Blank (body mac : List ℕ) : Type 0 where

@@ -1,6 +1,6 @@
 // One frame pulled through the whole chain.
 use crate::frame::show_frame;
-use crate::mending::show_mending;
+use crate::mend::show_mending;
 use crate::session::show_session;
 use crate::word::show_word;
 

@@ -8,7 +8,7 @@ mod command;
 mod frame;
 mod hex;
 mod layer;
-mod mending;
+mod mend;
 mod outcome;
 mod samples;
 mod script_run;

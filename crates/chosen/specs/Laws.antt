@@ -1,7 +1,7 @@
 -- Menders that are chosen keep the laws of a mender.
 use Rattle.std.specs.Prelude.{◌≡◌, ℕ, ◌≤◌, false, List, length, Some, None, Option, ◌≢◌}
 use Rattle.std.proofs.Common.{ap, arith, lit≤}
-use Rattle.std.specs.List.{AllByRecursion as All}
+use Rattle.std.specs.List.{AllByRecursion as Each}
 use Rattle.elements.specs.Octets.{octets, Octet}
 use Rattle.polynomials.specs.Differences.{differing}
 use Rattle.coding.specs.Codewords.{Codeword}
@@ -32,7 +32,7 @@ leaf_small Full = lit≤ tt
 some_none : {X : Type 0} (x : X) → Some x ≢ None
 some_none x e = let z : ◌≡◌ {A = ℕ} 0 1 = cc in omega arith
 
-leaf_few : (s : Leaf) (w : List ℕ) (cs : List Change) → LeafAnswers s w (Some cs) → (1 ≤ length cs) × (length cs ≤ 16) × All Adds cs
+leaf_few : (s : Leaf) (w : List ℕ) (cs : List Change) → LeafAnswers s w (Some cs) → (1 ≤ length cs) × (length cs ≤ 16) × Each Adds cs
 leaf_few Still w cs e = absurd (some_none cs e)
 leaf_few Single w cs n = single.few Single w cs Single n
 leaf_few Full w cs n = full.few Full w cs Full n
@@ -42,7 +42,7 @@ leaf_words Still w a e no_word = e
 leaf_words Single w a n no_word = single.words_only Single w a Single n no_word
 leaf_words Full w a n no_word = full.words_only Full w a Full n no_word
 
-leaf_finds : (s : Leaf) (w c : List ℕ) (a : Option (List Change)) → LeafAnswers s w a → All Octet w → Codeword c → length w ≡ length c
+leaf_finds : (s : Leaf) (w c : List ℕ) (a : Option (List Change)) → LeafAnswers s w a → Each Octet w → Codeword c → length w ≡ length c
     → 1 ≤ differing octets w c → differing octets w c ≤ leaf_reach s → (cs : List Change) × (a ≡ Some cs) × Difference w c cs
 leaf_finds Still w c a e h code long some near = absurd (omega arith)
 leaf_finds Single w c a n h code long some near = single.finds Single w c a Single n h code long some near
@@ -68,7 +68,7 @@ module _ {M : Type 0} (reach : M → ℕ) (rule : Rule M) (m : Mends reach rule)
   pile_stays (Two p) w a (One y) r = absurd r
   pile_stays (Two p) w a (Two q) r = layered_stays reach rule reach rule m m p.first q.first p.second q.second w a r
 
-  pile_few : (s : Pile M) (w : List ℕ) (cs : List Change) (t : Pile M) → PileRule rule s w (Some cs) t → (1 ≤ length cs) × (length cs ≤ 16) × All Adds cs
+  pile_few : (s : Pile M) (w : List ℕ) (cs : List Change) (t : Pile M) → PileRule rule s w (Some cs) t → (1 ≤ length cs) × (length cs ≤ 16) × Each Adds cs
   pile_few (One x) w cs (One y) r = m.few x w cs y r
   pile_few (One x) w cs (Two q) r = absurd r
   pile_few (Two p) w cs (One y) r = absurd r
@@ -80,7 +80,7 @@ module _ {M : Type 0} (reach : M → ℕ) (rule : Rule M) (m : Mends reach rule)
   pile_words (Two p) w a (One y) r no_word = absurd r
   pile_words (Two p) w a (Two q) r no_word = layered_words reach rule reach rule m m p.first q.first p.second q.second w a r no_word
 
-  pile_finds : (s : Pile M) (w c : List ℕ) (a : Option (List Change)) (t : Pile M) → PileRule rule s w a t → All Octet w → Codeword c → length w ≡ length c
+  pile_finds : (s : Pile M) (w c : List ℕ) (a : Option (List Change)) (t : Pile M) → PileRule rule s w a t → Each Octet w → Codeword c → length w ≡ length c
       → 1 ≤ differing octets w c → differing octets w c ≤ pile_reach reach s → (cs : List Change) × (a ≡ Some cs) × Difference w c cs
   pile_finds (One x) w c a (One y) r h code long some near = m.finds x w c a y r h code long some near
   pile_finds (One x) w c a (Two q) r h code long some near = absurd r

@@ -1,7 +1,7 @@
 -- The roots of a polynomial among some locators: distinct, and all that there are; and a row less one of its entries.
 use Rattle.std.proofs.Common.{◌≡◌, ℕ, zero, suc, ◌<◌, ◌≤◌, true, false, cond, ◌⊎◌, List, [], ◌∷◌, length, sym, refl, ◌∙◌, subst, inl, inr, arith}
 use native.Mathlib.Decide.{dec_le}
-use Rattle.std.specs.List.{AllByRecursion as All}
+use Rattle.std.specs.List.{AllByRecursion as Each}
 use Rattle.elements.specs.Laws.{Operations, Compares}
 use Rattle.coding.specs.Sums.{Distinct, eval_low}
 use Rattle.coding.specs.Decoder.{roots, others}
@@ -11,22 +11,22 @@ use Rattle.coding.proofs.Values.{Within}
 module _ {F : Type 0} {K : Operations F} (C : Compares K) (at : ℕ → F) where
   open K use {zero as 𝟘, same}
 
-  pub roots_zero : (v : List F) (n : ℕ) → All (λ y. eval_low K v y ≡ 𝟘) (roots K at v n)
+  pub roots_zero : (v : List F) (n : ℕ) → Each (λ y. eval_low K v y ≡ 𝟘) (roots K at v n)
   roots_zero v zero = tt
   roots_zero v (suc k) =
       let rest = roots_zero v k in
       let y = at k in
-      (elim (same (eval_low K v y) 𝟘) as (λ t. same (eval_low K v y) 𝟘 ≡ t → All (λ y. eval_low K v y ≡ 𝟘) (cond t (y ∷ roots K at v k) (roots K at v k))) [
+      (elim (same (eval_low K v y) 𝟘) as (λ t. same (eval_low K v y) 𝟘 ≡ t → Each (λ y. eval_low K v y ≡ 𝟘) (cond t (y ∷ roots K at v k) (roots K at v k))) [
         | true ↦ λ e. (C.equal (eval_low K v y) 𝟘 e, rest)
         | false ↦ λ e. rest
       ]) refl
 
-  pub roots_all : (P : F → Type 0) (v : List F) (n : ℕ) → ((k : ℕ) → k < n → P (at k)) → All P (roots K at v n)
+  pub roots_all : (P : F → Type 0) (v : List F) (n : ℕ) → ((k : ℕ) → k < n → P (at k)) → Each P (roots K at v n)
   roots_all P v zero h = tt
   roots_all P v (suc k) h =
       let rest = roots_all P v k (λ i below. h i (omega arith)) in
       let here = h k (omega arith) in
-      elim (same (eval_low K v (at k)) 𝟘) as (λ t. All P (cond t (at k ∷ roots K at v k) (roots K at v k))) [
+      elim (same (eval_low K v (at k)) 𝟘) as (λ t. Each P (cond t (at k ∷ roots K at v k) (roots K at v k))) [
         | true ↦ (here, rest)
         | false ↦ rest
       ]
@@ -63,11 +63,11 @@ module _ {F : Type 0} {K : Operations F} (C : Compares K) (at : ℕ → F) where
 module _ {F : Type 0} {K : Operations F} (C : Compares K) where
   open K use {same}
 
-  pub others_away : (y : F) (zs : List F) → All (λ z. ¬ (z ≡ y)) (others K y zs)
+  pub others_away : (y : F) (zs : List F) → Each (λ z. ¬ (z ≡ y)) (others K y zs)
   others_away y [] = tt
   others_away y (z ∷ zs) =
       let rest = others_away y zs in
-      (elim (same z y) as (λ t. same z y ≡ t → All (λ z. ¬ (z ≡ y)) (cond t (others K y zs) (z ∷ others K y zs))) [
+      (elim (same z y) as (λ t. same z y ≡ t → Each (λ z. ¬ (z ≡ y)) (cond t (others K y zs) (z ∷ others K y zs))) [
         | true ↦ λ e. rest
         | false ↦ λ e. (apart_of_false C z y e, rest)
       ]) refl

@@ -3,7 +3,7 @@ use Rattle.std.proofs.Common.{◌≡◌, ℕ, zero, suc, ◌+◌, cond, List, []
 use mathlib.Core.HLevel.{Σ_prop_path}
 use mathlib.Core.List.{map-append}
 use lib.ListN.{length-map}
-use Rattle.std.specs.List.{AllByRecursion as All}
+use Rattle.std.specs.List.{AllByRecursion as Each}
 use Rattle.std.proofs.lemmas.List.{drop-map}
 use Rattle.elements.specs.Laws.{Operations, Laws}
 use Rattle.polynomials.specs.Differences.{differing}
@@ -28,7 +28,7 @@ module _ {A : Type 0} {ok : A → Type 0} where
   abbrev pub low : List (Part A ok) → List A
   low xs = map (λ x. x.0) xs
 
-  pub low_ok : (xs : List (Part A ok)) → All ok (low xs)
+  pub low_ok : (xs : List (Part A ok)) → Each ok (low xs)
   low_ok [] = tt
   low_ok (x ∷ xs) = (x.1, low_ok xs)
 
@@ -40,15 +40,15 @@ module _ {A : Type 0} {ok : A → Type 0} where
   low_replicate (suc n) x = ap {B = List A} (λ r. x.0 ∷ r) (low_replicate n x)
 
 module _ {A : Type 0} (ok : A → Type 0) where
-  abbrev pub lift : (xs : List A) → All ok xs → List (Part A ok)
+  abbrev pub lift : (xs : List A) → Each ok xs → List (Part A ok)
   lift [] h = []
   lift (x ∷ xs) h = (x, h.0) ∷ lift xs h.1
 
-  pub low_lift : (xs : List A) (h : All ok xs) → low (lift xs h) ≡ xs
+  pub low_lift : (xs : List A) (h : Each ok xs) → low (lift xs h) ≡ xs
   low_lift [] h = refl
   low_lift (x ∷ xs) h = ap {B = List A} (λ r. x ∷ r) (low_lift xs h.1)
 
-  pub length_lift : (xs : List A) (h : All ok xs) → length (lift xs h) ≡ length xs
+  pub length_lift : (xs : List A) (h : Each ok xs) → length (lift xs h) ≡ length xs
   length_lift [] h = refl
   length_lift (x ∷ xs) h = ap suc (length_lift xs h.1)
 

@@ -2,7 +2,7 @@
 use Rattle.std.proofs.Common.{◌≡◌, ℕ, zero, suc, ◌<◌, Bool, true, false, cond, List, [], ◌∷◌, map, length, sym, refl, ap, ◌∙◌, subst, ap₂, arith}
 use mathlib.Core.Path.{fun_ext}
 use lib.ListN.{length-map}
-use Rattle.std.specs.List.{AllByRecursion as All}
+use Rattle.std.specs.List.{AllByRecursion as Each}
 use Rattle.elements.specs.Laws.{Operations}
 use Rattle.coding.specs.Sums.{Distinct, Zero, eval_low, slide, times_root, from_roots}
 use Rattle.coding.specs.Kernel.{dot, scale, add_mul, clear_rows, eliminate_rows, kernel_rows, unit, unit_rows, Solves}
@@ -16,11 +16,11 @@ module _ {A : Type 0} {ok : A → Type 0} where
   low_rows rs = map low rs
 
 module _ {A : Type 0} (ok : A → Type 0) where
-  abbrev lift_rows : (rs : List (List A)) → All (All ok) rs → List (List (Part A ok))
+  abbrev lift_rows : (rs : List (List A)) → Each (Each ok) rs → List (List (Part A ok))
   lift_rows [] h = []
   lift_rows (r ∷ rs) h = lift ok r h.0 ∷ lift_rows rs h.1
 
-  low_lift_rows : (rs : List (List A)) (h : All (All ok) rs) → low_rows (lift_rows rs h) ≡ rs
+  low_lift_rows : (rs : List (List A)) (h : Each (Each ok) rs) → low_rows (lift_rows rs h) ≡ rs
   low_lift_rows [] h = refl
   low_lift_rows (r ∷ rs) h = ap₂ {C = List (List A)} (λ x xs. x ∷ xs) (low_lift ok r h.0) (low_lift_rows rs h.1)
 
@@ -154,57 +154,57 @@ module _ {A : Type 0} {ok : A → Type 0} {K : Operations A} (H : FieldOn ok K) 
 
   -- what is proved of the field holds of proper values
 
-  pub zeros_lift : (v : List A) (h : All ok v) → All (Zero P) (lift ok v h) → All (Zero K) v
+  pub zeros_lift : (v : List A) (h : Each ok v) → Each (Zero P) (lift ok v h) → Each (Zero K) v
   zeros_lift [] h z = tt
   zeros_lift (a ∷ v) h z = (ap (λ x. x.0) z.0, zeros_lift v h.1 z.1)
 
-  zeros_low : (v : List E) → All (Zero K) (low v) → All (Zero P) v
+  zeros_low : (v : List E) → Each (Zero K) (low v) → Each (Zero P) v
   zeros_low [] z = tt
   zeros_low (a ∷ v) z = (part_path H _ _ z.0, zeros_low v z.1)
 
-  solves_low : (rs : List (List E)) (v : List E) → All (λ r. dot P r v ≡ P.zero) rs → All (λ r. dot K r (low v) ≡ 𝟘) (low_rows rs)
+  solves_low : (rs : List (List E)) (v : List E) → Each (λ r. dot P r v ≡ P.zero) rs → Each (λ r. dot K r (low v) ≡ 𝟘) (low_rows rs)
   solves_low [] v h = tt
   solves_low (r ∷ rs) v h = (sym (low_dot r v) ∙ ap (λ x. x.0) h.0, solves_low rs v h.1)
 
-  all_solve_low : (n : ℕ) (rs vs : List (List E)) → All (Solves P n rs) vs → All (λ v. Solves K n (low_rows rs) v × All ok v) (low_rows vs)
+  all_solve_low : (n : ℕ) (rs vs : List (List E)) → Each (Solves P n rs) vs → Each (λ v. Solves K n (low_rows rs) v × Each ok v) (low_rows vs)
   all_solve_low n rs [] h = tt
   all_solve_low n rs (v ∷ vs) h = (
     (record { long = length_low v ∙ h.0.long; solves = solves_low rs v h.0.solves; some = λ z. h.0.some (zeros_low v z) }, low_ok v),
     all_solve_low n rs vs h.1,
   )
 
-  kernel_low : (n : ℕ) (rs : List (List A)) (h : All (All ok) rs) → low_rows (kernel_rows P (lift_rows ok rs h) (unit_rows P n 0 n)) ≡ kernel_rows K rs (unit_rows K n 0 n)
+  kernel_low : (n : ℕ) (rs : List (List A)) (h : Each (Each ok) rs) → low_rows (kernel_rows P (lift_rows ok rs h) (unit_rows P n 0 n)) ≡ kernel_rows K rs (unit_rows K n 0 n)
   kernel_low n rs h = low_kernel_rows (lift_rows ok rs h) (unit_rows P n 0 n) ∙ ap₂ (kernel_rows K) (low_lift_rows ok rs h) (low_unit_rows n 0 n)
 
-  pub rows_solve_on : (n : ℕ) (rs : List (List A)) → All (All ok) rs → All (λ v. Solves K n rs v × All ok v) (kernel_rows K rs (unit_rows K n 0 n))
+  pub rows_solve_on : (n : ℕ) (rs : List (List A)) → Each (Each ok) rs → Each (λ v. Solves K n rs v × Each ok v) (kernel_rows K rs (unit_rows K n 0 n))
   rows_solve_on n rs h =
       let rs' = lift_rows ok rs h in
-      subst (λ r. All (λ v. Solves K n r v × All ok v) (kernel_rows K rs (unit_rows K n 0 n))) (low_lift_rows ok rs h)
-      (subst (All (λ v. Solves K n (low_rows rs') v × All ok v)) (kernel_low n rs h)
+      subst (λ r. Each (λ v. Solves K n r v × Each ok v) (kernel_rows K rs (unit_rows K n 0 n))) (low_lift_rows ok rs h)
+      (subst (Each (λ v. Solves K n (low_rows rs') v × Each ok v)) (kernel_low n rs h)
       (all_solve_low n rs' (kernel_rows P rs' (unit_rows P n 0 n)) (rows_solve (part_field H) n rs')))
 
-  pub rows_left_on : (n : ℕ) (rs : List (List A)) → All (All ok) rs → length rs < n → 0 < length (kernel_rows K rs (unit_rows K n 0 n))
+  pub rows_left_on : (n : ℕ) (rs : List (List A)) → Each (Each ok) rs → length rs < n → 0 < length (kernel_rows K rs (unit_rows K n 0 n))
   rows_left_on n rs h fewer =
       let rs' = lift_rows ok rs h in
       let long : length rs' ≡ length rs = sym (length-map rs' low) ∙ ap length (low_lift_rows ok rs h) in
       rw (← kernel_low n rs h) (rw length-map (rows_left (part_field H) n rs' (omega arith)))
 
-  away_lift : (x : E) (ys : List A) (h : All ok ys) → All (λ y. ¬ (y ≡ x.0)) ys → All (λ y. ¬ (y ≡ x)) (lift ok ys h)
+  away_lift : (x : E) (ys : List A) (h : Each ok ys) → Each (λ y. ¬ (y ≡ x.0)) ys → Each (λ y. ¬ (y ≡ x)) (lift ok ys h)
   away_lift x [] h away = tt
   away_lift x (y ∷ ys) h away = (λ e. away.0 (ap (λ z. z.0) e), away_lift x ys h.1 away.1)
 
-  distinct_lift : (xs : List A) (h : All ok xs) → Distinct xs → Distinct (lift ok xs h)
+  distinct_lift : (xs : List A) (h : Each ok xs) → Distinct xs → Distinct (lift ok xs h)
   distinct_lift [] h d = tt
   distinct_lift (x ∷ xs) h d = (away_lift (x, h.0) xs h.1 d.0, distinct_lift xs h.1 d.1)
 
-  roots_lift : (v : List E) (xs : List A) (h : All ok xs) → All (λ x. eval_low K (low v) x ≡ 𝟘) xs → All (λ x. eval_low P v x ≡ P.zero) (lift ok xs h)
+  roots_lift : (v : List E) (xs : List A) (h : Each ok xs) → Each (λ x. eval_low K (low v) x ≡ 𝟘) xs → Each (λ x. eval_low P v x ≡ P.zero) (lift ok xs h)
   roots_lift v [] h z = tt
   roots_lift v (x ∷ xs) h z = (part_path H _ _ (low_eval_low v (x, h.0) ∙ z.0), roots_lift v xs h.1 z.1)
 
-  pub few_roots_on : (rs vs : List A) → All ok rs → All ok vs → Distinct rs → All (λ r. eval_low K vs r ≡ 𝟘) rs → ¬ (All (Zero K) vs) → length rs < length vs
+  pub few_roots_on : (rs vs : List A) → Each ok rs → Each ok vs → Distinct rs → Each (λ r. eval_low K vs r ≡ 𝟘) rs → ¬ (Each (Zero K) vs) → length rs < length vs
   few_roots_on rs vs hr hv distinct zeros some =
       let vs' = lift ok vs hv in
-      let zeros' = subst (λ v. All (λ r. eval_low K v r ≡ 𝟘) rs) (sym (low_lift ok vs hv)) zeros in
+      let zeros' = subst (λ v. Each (λ r. eval_low K v r ≡ 𝟘) rs) (sym (low_lift ok vs hv)) zeros in
       omega (
         arith,
         few_roots (part_field H) (lift ok rs hr) vs' (distinct_lift rs hr distinct) (roots_lift vs' rs hr zeros') (λ z. some (zeros_lift vs hv z)),

@@ -1,7 +1,7 @@
 -- A vector that solves the equations of the syndromes puts a word right: it comes to the word of the code no more than t places away.
 use Rattle.std.proofs.Common.{◌≡◌, ℕ, zero, suc, ◌+◌, ◌<◌, ◌≤◌, true, false, cond, ◌⊎◌, List, [], ◌∷◌, length, sym, refl, ap, ◌∙◌, ap₂, arith}
 use native.Mathlib.Decide.{dec_le}
-use Rattle.std.specs.List.{AllByRecursion as All}
+use Rattle.std.specs.List.{AllByRecursion as Each}
 use Rattle.std.proofs.ByRecursion.{All-weaker}
 use Rattle.elements.specs.Laws.{Operations}
 use Rattle.polynomials.specs.Differences.{differing}
@@ -33,7 +33,7 @@ module _ {F : Type 0} (K : Operations F) where
   dot_window s (suc n) k [] le = refl
   dot_window s (suc n) k (a ∷ v) le = ap (λ d. a ⊗ s k ⊕ d) (dot_window s n (suc k) v (omega arith))
 
-  pub windows_slide : (s : ℕ → F) (n m k : ℕ) (v : List F) → length v ≤ n → All (λ r. dot K r v ≡ 𝟘) (windows s n k m) → Vanishes K (slide K v s) k m
+  pub windows_slide : (s : ℕ → F) (n m k : ℕ) (v : List F) → length v ≤ n → Each (λ r. dot K r v ≡ 𝟘) (windows s n k m) → Vanishes K (slide K v s) k m
   windows_slide s n zero k v le h = λ i from to. absurd (omega arith)
   windows_slide s n (suc m) k v le h =
       let rest = windows_slide s n m (suc k) v le h.1 in
@@ -57,7 +57,7 @@ module _ {F : Type 0} {K : Operations F} (L : Field K) where
 
   -- letters
 
-  value_away : (y : F) (ps : List (Term F)) → All (λ x. ¬ (x ≡ y)) (locators ps) → value_at K ps y ≡ 𝟘
+  value_away : (y : F) (ps : List (Term F)) → Each (λ x. ¬ (x ≡ y)) (locators ps) → value_at K ps y ≡ 𝟘
   value_away y [] h = refl
   value_away y (p ∷ ps) h = ap₂ (λ t a. cond t p.value 𝟘 ⊕ a) (apart_false (compares L) p.at y h.0) (value_away y ps h.1) ∙ zero_plus L 𝟘
 
@@ -89,11 +89,11 @@ module _ {F : Type 0} {K : Operations F} (L : Field K) where
   from_one f t h zero from to = absurd (omega arith)
   from_one f t h (suc j) from to = h j (omega arith)
 
-  apply_all : (P Q : F → Type 0) (ps : List (Term F)) → All (λ p. P p.at) ps → All (λ x. P x → Q x) (locators ps) → All Q (locators ps)
+  apply_all : (P Q : F → Type 0) (ps : List (Term F)) → Each (λ p. P p.at) ps → Each (λ x. P x → Q x) (locators ps) → Each Q (locators ps)
   apply_all P Q [] h f = tt
   apply_all P Q (p ∷ ps) h f = (f.0 h.0, apply_all P Q ps h.1 f.1)
 
-  of_terms : (P : F → Type 0) (ps : List (Term F)) → All (λ p. P p.at) ps → All P (locators ps)
+  of_terms : (P : F → Type 0) (ps : List (Term F)) → Each (λ p. P p.at) ps → Each P (locators ps)
   of_terms P [] h = tt
   of_terms P (p ∷ ps) h = (h.0, of_terms P ps h.1)
 
@@ -111,7 +111,7 @@ module _ {F : Type 0} {K : Operations F} (L : Field K) where
         sym (slide_suc K u (psum K ps) j) ∙ slide_same K u (λ i. psum K ps (suc i)) S j (λ i from to. sym (syndrome_psum α r w c len code i (omega arith)))
 
     -- where each place in which they differ is among ys, the magnitude at y is what is wrong there
-    pub magnitude_value : (ys : List F) (y : F) → Nonzero K y → length (others K y ys) < r → All (λ x. Within x ys) (locators ps) → magnitude K S ys y ≡ value_at K ps y
+    pub magnitude_value : (ys : List F) (y : F) → Nonzero K y → length (others K y ys) < r → Each (λ x. Within x ys) (locators ps) → magnitude K S ys y ≡ value_at K ps y
     magnitude_value ys y some few among =
         let P = from_roots K (others K y ys) in
         sym (value_from L y (others K y ys) ps some (others_away (compares L) y ys)
@@ -123,11 +123,11 @@ module _ {F : Type 0} {K : Operations F} (L : Field K) where
     patched f right = patch_same (pow K α) f (value_at K ps) w right ∙ patch_diffs α n apart w c len fits
 
     -- at most t places are wrong, and v solves the t equations
-    module _ (t : ℕ) (enough : t + t ≤ r) (near : differing K w c ≤ t) (v : List F) (long : length v ≡ suc t) (some : ¬ (All (Zero K) v)) (solves : Vanishes K (slide K v S) 0 t) where
+    module _ (t : ℕ) (enough : t + t ≤ r) (near : differing K w c ≤ t) (v : List F) (long : length v ≡ suc t) (some : ¬ (Each (Zero K) v)) (solves : Vanishes K (slide K v S) 0 t) where
       abbrev Y : List F
       Y = roots K (pow K α) v (length w)
 
-      at_terms : All (λ p. eval_low K v p.at ≡ 𝟘) ps
+      at_terms : Each (λ p. eval_low K v p.at ≡ 𝟘) ps
       at_terms =
           locator L v ps 1 t (rw (length_diffs L α w c) near) (diffs_distinct L α n apart w c fits)
           (diffs_locators L (Nonzero K) α n (λ k below. pow_apart L α k nonzero) w c fits) (diffs_values L α w c)
@@ -136,7 +136,7 @@ module _ {F : Type 0} {K : Operations F} (L : Field K) where
       few : length Y ≤ t
       few = omega (arith, few_roots L Y v (roots_distinct (compares L) (pow K α) v (length w) (λ i j below inside. apart i j below (omega arith))) (roots_zero (compares L) (pow K α) v (length w)) some)
 
-      among : All (λ x. Within x Y) (locators ps)
+      among : Each (λ x. Within x Y) (locators ps)
       among =
           apply_all (λ x. eval_low K v x ≡ 𝟘) (λ x. Within x Y) ps at_terms
           (diffs_locators L (λ x. eval_low K v x ≡ 𝟘 → Within x Y) α (length w) (λ k below z. roots_within (compares L) (pow K α) v (length w) k below z) w c (omega arith))

@@ -1,6 +1,6 @@
 -- Two words whose polynomials vanish at as many powers of α in a row as there are places in which they differ are the same.
 use Rattle.std.proofs.Common.{◌≡◌, ℕ, ◌+◌, ◌<◌, ◌≤◌, Bool, true, false, cond, List, [], ◌∷◌, length, sym, refl, ap, ◌∙◌, ap₂, arith}
-use Rattle.std.specs.List.{AllByRecursion as All}
+use Rattle.std.specs.List.{AllByRecursion as Each}
 use Rattle.elements.specs.Laws.{Operations}
 use Rattle.polynomials.specs.Differences.{differing}
 use Rattle.coding.specs.Field.{Field}
@@ -82,24 +82,24 @@ module _ {F : Type 0} {K : Operations F} (L : Field K) where
         | false ↦ omega arith
       ]
 
-  pub diffs_values : (α : F) (w c : List F) → All (λ p. Nonzero K p.value) (diffs K α w c)
+  pub diffs_values : (α : F) (w c : List F) → Each (λ p. Nonzero K p.value) (diffs K α w c)
   diffs_values α [] c = tt
   diffs_values α (a ∷ w) [] = tt
   diffs_values α (a ∷ w) (b ∷ c) =
       let rest = diffs_values α w c in
-      (elim (same a b) as (λ t. same a b ≡ t → All (λ p. Nonzero K p.value) (cond t (diffs K α w c) (record { value = a ⊕ b; at = pow K α (length w) } ∷ diffs K α w c))) [
+      (elim (same a b) as (λ t. same a b ≡ t → Each (λ p. Nonzero K p.value) (cond t (diffs K α w c) (record { value = a ⊕ b; at = pow K α (length w) } ∷ diffs K α w c))) [
         | true ↦ λ e. rest
         | false ↦ λ e. (sum_apart L a b (apart_of_false (compares L) a b e), rest)
       ]) refl
 
   -- what holds of each power of α below the length holds of each locator
-  pub diffs_locators : (P : F → Type 0) (α : F) (n : ℕ) → ((k : ℕ) → k < n → P (pow K α k)) → (w c : List F) → length w ≤ n → All P (locators (diffs K α w c))
+  pub diffs_locators : (P : F → Type 0) (α : F) (n : ℕ) → ((k : ℕ) → k < n → P (pow K α k)) → (w c : List F) → length w ≤ n → Each P (locators (diffs K α w c))
   diffs_locators P α n h [] c le = tt
   diffs_locators P α n h (a ∷ w) [] le = tt
   diffs_locators P α n h (a ∷ w) (b ∷ c) le =
       let rest = diffs_locators P α n h w c (omega arith) in
       let here = h (length w) (omega arith) in
-      elim (same a b) as (λ t. All P (locators (cond t (diffs K α w c) (record { value = a ⊕ b; at = pow K α (length w) } ∷ diffs K α w c)))) [
+      elim (same a b) as (λ t. Each P (locators (cond t (diffs K α w c) (record { value = a ⊕ b; at = pow K α (length w) } ∷ diffs K α w c)))) [
         | true ↦ rest
         | false ↦ (here, rest)
       ]
@@ -115,7 +115,7 @@ module _ {F : Type 0} {K : Operations F} (L : Field K) where
         | false ↦ (away, rest)
       ]
 
-  none_left : (ps : List (Term F)) → All (λ p. Zero K p.value) ps → All (λ p. Nonzero K p.value) ps → length ps ≡ 0
+  none_left : (ps : List (Term F)) → Each (λ p. Zero K p.value) ps → Each (λ p. Nonzero K p.value) ps → length ps ≡ 0
   none_left [] z h = refl
   none_left (p ∷ ps) z h = absurd (h.0 z.0)
 

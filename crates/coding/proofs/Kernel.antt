@@ -1,7 +1,7 @@
 -- Elimination leaves vectors that solve every equation and are not zero: each has a coordinate of its own, which no other one has.
 use Rattle.std.proofs.Common.{◌≡◌, ℕ, zero, suc, ◌+◌, ◌<◌, ◌≤◌, true, false, cond, List, [], ◌∷◌, length, get_or, replicate, sym, refl, ap, ◌∙◌, ap₂, arith}
 use lib.ListN.{length-replicate}
-use Rattle.std.specs.List.{AllByRecursion as All}
+use Rattle.std.specs.List.{AllByRecursion as Each}
 use Rattle.std.proofs.ByRecursion.{All-weaker}
 use Rattle.elements.specs.Laws.{Operations}
 use Rattle.coding.specs.Field.{Field}
@@ -46,7 +46,7 @@ module _ {F : Type 0} (K : Operations F) where
   pub record Good (n : ℕ) (rs : List (List F)) (v : Alive F) : Type 0 where
     pub long : length v.row ≡ n
     pub one : get_or v.row v.own 𝟘 ≡ 𝟙
-    pub solves : All (λ r. dot K r v.row ≡ 𝟘) rs
+    pub solves : Each (λ r. dot K r v.row ≡ 𝟘) rs
 
   -- zero at each other's own coordinate
   abbrev Apart : Alive F → Alive F → Type 0
@@ -54,7 +54,7 @@ module _ {F : Type 0} (K : Operations F) where
 
   abbrev AllApart : List (Alive F) → Type 0
   AllApart [] = Unit {0}
-  AllApart (v ∷ vs) = All (Apart v) vs × AllApart vs
+  AllApart (v ∷ vs) = Each (Apart v) vs × AllApart vs
 
   -- lengths
 
@@ -77,7 +77,7 @@ abbrev onto : {A : Type 0} → List A → List A → List A
 onto [] done = done
 onto (r ∷ rs) done = onto rs (r ∷ done)
 
-all_onto : {A : Type 0} (P : A → Type 0) (rs done : List A) → All P (onto rs done) → All P rs × All P done
+all_onto : {A : Type 0} (P : A → Type 0) (rs done : List A) → Each P (onto rs done) → Each P rs × Each P done
 all_onto P [] done h = (tt, h)
 all_onto P (r ∷ rs) done h = let k = all_onto P rs (r ∷ done) h in ((k.1.0, k.0), k.1.1)
 
@@ -124,15 +124,15 @@ module _ {F : Type 0} {K : Operations F} (L : Field K) where
 
   -- what is kept by u + c · p, the own coordinate that of u, is kept by the step
 
-  clear_all : (P : Alive F → Type 0) (r : List F) (p : Alive F) → ((c : F) (u : Alive F) → P u → P (mix K c u p)) → (vs : List (Alive F)) → All P vs → All P (clear K r p vs)
+  clear_all : (P : Alive F → Type 0) (r : List F) (p : Alive F) → ((c : F) (u : Alive F) → P u → P (mix K c u p)) → (vs : List (Alive F)) → Each P vs → Each P (clear K r p vs)
   clear_all P r p kept [] h = tt
   clear_all P r p kept (v ∷ vs) h = (kept (dot K r v.row ⊗ inv (dot K r p.row)) v h.0, clear_all P r p kept vs h.1)
 
-  eliminate_all : (P : Alive F → Type 0) → Kept K P → (r : List F) (vs : List (Alive F)) → All P vs → All P (eliminate K r vs)
+  eliminate_all : (P : Alive F → Type 0) → Kept K P → (r : List F) (vs : List (Alive F)) → Each P vs → Each P (eliminate K r vs)
   eliminate_all P kept r [] h = tt
   eliminate_all P kept r (v ∷ vs) h =
       let rest = eliminate_all P kept r vs h.1 in
-      elim (same (dot K r v.row) 𝟘) as (λ t. All P (cond t (v ∷ eliminate K r vs) (clear K r v vs))) [
+      elim (same (dot K r v.row) 𝟘) as (λ t. Each P (cond t (v ∷ eliminate K r vs) (clear K r v vs))) [
         | true ↦ (h.0, rest)
         | false ↦ clear_all P r v (λ c u k. kept c u v k h.0) vs h.1
       ]
@@ -149,7 +149,7 @@ module _ {F : Type 0} {K : Operations F} (L : Field K) where
   apart_swap : (u v : Alive F) → Apart K u v → Apart K v u
   apart_swap u v a = (a.1, a.0)
 
-  solved_mix : (rs : List (List F)) (c : F) (u p : Alive F) → All (λ r. dot K r u.row ≡ 𝟘) rs → All (λ r. dot K r p.row ≡ 𝟘) rs → All (λ r. dot K r (add_mul K c u.row p.row) ≡ 𝟘) rs
+  solved_mix : (rs : List (List F)) (c : F) (u p : Alive F) → Each (λ r. dot K r u.row ≡ 𝟘) rs → Each (λ r. dot K r p.row ≡ 𝟘) rs → Each (λ r. dot K r (add_mul K c u.row p.row) ≡ 𝟘) rs
   solved_mix [] c u p a b = tt
   solved_mix (r ∷ rs) c u p a b = (dot_add_mul r c u.row p.row ∙ keep_zero c _ _ a.0 b.0, solved_mix rs c u p a.1 b.1)
 
@@ -167,7 +167,7 @@ module _ {F : Type 0} {K : Operations F} (L : Field K) where
       regroup ∙ ap (λ z. d ⊕ d ⊗ z) (L.mul_inv p h) ∙ simp (ring, L)
 
   -- the new equation holds too
-  good_clear : (n : ℕ) (r : List F) (rs : List (List F)) (p : Alive F) (vs : List (Alive F)) → Nonzero K (dot K r p.row) → Good K n rs p → All (Apart K p) vs → All (Good K n rs) vs → All (Good K n (r ∷ rs)) (clear K r p vs)
+  good_clear : (n : ℕ) (r : List F) (rs : List (List F)) (p : Alive F) (vs : List (Alive F)) → Nonzero K (dot K r p.row) → Good K n rs p → Each (Apart K p) vs → Each (Good K n rs) vs → Each (Good K n (r ∷ rs)) (clear K r p vs)
   good_clear n r rs p [] nonzero h apart all = tt
   good_clear n r rs p (v ∷ vs) nonzero h apart all =
       let d = dot K r p.row in
@@ -181,12 +181,12 @@ module _ {F : Type 0} {K : Operations F} (L : Field K) where
         good_clear n r rs p vs nonzero h apart.1 all.1,
       )
 
-  each_mix : (c : F) (v p : Alive F) (us : List (Alive F)) → All (Apart K v) us → All (Apart K p) us → All (Apart K (mix K c v p)) us
+  each_mix : (c : F) (v p : Alive F) (us : List (Alive F)) → Each (Apart K v) us → Each (Apart K p) us → Each (Apart K (mix K c v p)) us
   each_mix c v p [] a b = tt
   each_mix c v p (u ∷ us) a b =
       (apart_swap u (mix K c v p) (apart_mix u c v p (apart_swap v u a.0) b.0.0), each_mix c v p us a.1 b.1)
 
-  apart_clear : (r : List F) (p : Alive F) (vs : List (Alive F)) → All (Apart K p) vs → AllApart K vs → AllApart K (clear K r p vs)
+  apart_clear : (r : List F) (p : Alive F) (vs : List (Alive F)) → Each (Apart K p) vs → AllApart K vs → AllApart K (clear K r p vs)
   apart_clear r p [] apart h = tt
   apart_clear r p (v ∷ vs) apart h =
       let c = dot K r v.row ⊗ inv (dot K r p.row) in
@@ -198,12 +198,12 @@ module _ {F : Type 0} {K : Operations F} (L : Field K) where
   solve_more : (n : ℕ) (r : List F) (rs : List (List F)) (v : Alive F) → dot K r v.row ≡ 𝟘 → Good K n rs v → Good K n (r ∷ rs) v
   solve_more n r rs v e g = record { long = g.long; one = g.one; solves = (e, g.solves) }
 
-  good_eliminate : (n : ℕ) (r : List F) (rs : List (List F)) (vs : List (Alive F)) → AllApart K vs → All (Good K n rs) vs → All (Good K n (r ∷ rs)) (eliminate K r vs)
+  good_eliminate : (n : ℕ) (r : List F) (rs : List (List F)) (vs : List (Alive F)) → AllApart K vs → Each (Good K n rs) vs → Each (Good K n (r ∷ rs)) (eliminate K r vs)
   good_eliminate n r rs [] apart good = tt
   good_eliminate n r rs (v ∷ vs) apart good =
       let d = dot K r v.row in
       let rest = good_eliminate n r rs vs apart.1 good.1 in
-      (elim (same d 𝟘) as (λ t. same d 𝟘 ≡ t → All (Good K n (r ∷ rs)) (cond t (v ∷ eliminate K r vs) (clear K r v vs))) [
+      (elim (same d 𝟘) as (λ t. same d 𝟘 ≡ t → Each (Good K n (r ∷ rs)) (cond t (v ∷ eliminate K r vs) (clear K r v vs))) [
         | true ↦ λ e. (solve_more n r rs v (L.same_true d 𝟘 e) good.0, rest)
         | false ↦ λ e. good_clear n r rs v vs (apart_of_false (compares L) d 𝟘 e) good.0 apart.0 good.1
       ]) refl
@@ -234,7 +234,7 @@ module _ {F : Type 0} {K : Operations F} (L : Field K) where
 
   -- all steps: `done` are the equations behind us, the last one first
 
-  good_kernel : (n : ℕ) (rs done : List (List F)) (vs : List (Alive F)) → AllApart K vs → All (Good K n done) vs → All (Good K n (onto rs done)) (kernel K rs vs)
+  good_kernel : (n : ℕ) (rs done : List (List F)) (vs : List (Alive F)) → AllApart K vs → Each (Good K n done) vs → Each (Good K n (onto rs done)) (kernel K rs vs)
   good_kernel n [] done vs apart good = good
   good_kernel n (r ∷ rs) done vs apart good =
       good_kernel n rs (r ∷ done) (eliminate K r vs) (apart_eliminate r vs apart) (good_eliminate n r done vs apart good)
@@ -262,7 +262,7 @@ module _ {F : Type 0} {K : Operations F} (L : Field K) where
   unit_other (suc n) (suc i) zero h = refl
   unit_other (suc n) (suc i) (suc j) h = unit_other n i j (λ e. h (ap suc e))
 
-  away_units : (n i j k : ℕ) → i < j → All (Apart K (record { own = i; row = unit K n i })) (units K n j k)
+  away_units : (n i j k : ℕ) → i < j → Each (Apart K (record { own = i; row = unit K n i })) (units K n j k)
   away_units n i j zero h = tt
   away_units n i j (suc k) h = ((unit_other n i j (omega arith), unit_other n j i (omega arith)), away_units n i (suc j) k (omega arith))
 
@@ -270,7 +270,7 @@ module _ {F : Type 0} {K : Operations F} (L : Field K) where
   apart_units n i zero = tt
   apart_units n i (suc k) = (away_units n i (suc i) k (omega arith), apart_units n (suc i) k)
 
-  good_units : (n i k : ℕ) → i + k ≤ n → All (Good K n []) (units K n i k)
+  good_units : (n i k : ℕ) → i + k ≤ n → Each (Good K n []) (units K n i k)
   good_units n i zero h = tt
   good_units n i (suc k) h =
       (record { long = length_unit K n i; one = unit_own n i (omega arith); solves = tt }, good_units n (suc i) k (omega arith))
@@ -281,7 +281,7 @@ module _ {F : Type 0} {K : Operations F} (L : Field K) where
 
   -- what comes out
 
-  pub kernel_good : (n : ℕ) (rs : List (List F)) → All (Good K n rs) (kernel K rs (units K n 0 n))
+  pub kernel_good : (n : ℕ) (rs : List (List F)) → Each (Good K n rs) (kernel K rs (units K n 0 n))
   kernel_good n rs =
       All-weaker (Good K n (onto rs [])) (Good K n rs)
       (λ v g. record { long = g.long; one = g.one; solves = (all_onto (λ r. dot K r v.row ≡ 𝟘) rs [] g.solves).0 })
@@ -291,10 +291,10 @@ module _ {F : Type 0} {K : Operations F} (L : Field K) where
   pub kernel_some : (n : ℕ) (rs : List (List F)) → length rs < n → 0 < length (kernel K rs (units K n 0 n))
   kernel_some n rs fewer = omega (arith, length_kernel rs (units K n 0 n), length_units n 0 n)
 
-  zeros_entry : (v : List F) (i : ℕ) → All (Zero K) v → entry K v i ≡ 𝟘
+  zeros_entry : (v : List F) (i : ℕ) → Each (Zero K) v → entry K v i ≡ 𝟘
   zeros_entry [] i h = refl
   zeros_entry (a ∷ v) zero h = h.0
   zeros_entry (a ∷ v) (suc i) h = zeros_entry v i h.1
 
-  pub good_nonzero : (n : ℕ) (rs : List (List F)) (v : Alive F) → Good K n rs v → ¬ (All (Zero K) v.row)
+  pub good_nonzero : (n : ℕ) (rs : List (List F)) (v : Alive F) → Good K n rs v → ¬ (Each (Zero K) v.row)
   good_nonzero n rs v g zeros = L.one_not_zero (sym g.one ∙ zeros_entry v.row v.own zeros)

@@ -1,6 +1,6 @@
 -- Elimination over rows alone, and in the form that a loop over an array has.
 use Rattle.std.proofs.Common.{◌≡◌, ℕ, zero, suc, ◌<◌, Bool, true, false, cond, List, [], ◌∷◌, ◌++◌, length, get_or, take, drop, refl, ap, ◌∙◌, subst, ap₂, arith}
-use Rattle.std.specs.List.{AllByRecursion as All}
+use Rattle.std.specs.List.{AllByRecursion as Each}
 use Rattle.elements.specs.Laws.{Operations, Compares}
 use Rattle.coding.specs.Field.{Field}
 use Rattle.coding.specs.Sums.{Nonzero}
@@ -51,14 +51,14 @@ module _ {F : Type 0} (K : Operations F) where
   rows_of_kernel n rs = rows_kernel rs (units K n 0 n) ∙ ap (kernel_rows K rs) (rows_units n 0 n)
 
 module _ {F : Type 0} {K : Operations F} (L : Field K) where
-  good_rows : (n : ℕ) (rs : List (List F)) (vs : List (Alive F)) → All (Good K n rs) vs → All (Solves K n rs) (rows_of vs)
+  good_rows : (n : ℕ) (rs : List (List F)) (vs : List (Alive F)) → Each (Good K n rs) vs → Each (Solves K n rs) (rows_of vs)
   good_rows n rs [] h = tt
   good_rows n rs (v ∷ vs) h =
       (record { long = h.0.long; solves = h.0.solves; some = good_nonzero L n rs v h.0 }, good_rows n rs vs h.1)
 
   -- each row that is left solves every equation, and is not zero
-  pub rows_solve : (n : ℕ) (rs : List (List F)) → All (Solves K n rs) (kernel_rows K rs (unit_rows K n 0 n))
-  rows_solve n rs = subst (All (Solves K n rs)) (rows_of_kernel K n rs) (good_rows n rs (kernel K rs (units K n 0 n)) (kernel_good L n rs))
+  pub rows_solve : (n : ℕ) (rs : List (List F)) → Each (Solves K n rs) (kernel_rows K rs (unit_rows K n 0 n))
+  rows_solve n rs = subst (Each (Solves K n rs)) (rows_of_kernel K n rs) (good_rows n rs (kernel K rs (units K n 0 n)) (kernel_good L n rs))
 
   -- with fewer equations than unknowns, one is left
   pub rows_left : (n : ℕ) (rs : List (List F)) → length rs < n → 0 < length (kernel_rows K rs (unit_rows K n 0 n))
@@ -68,12 +68,12 @@ module _ {F : Type 0} {K : Operations F} (L : Field K) where
 module _ {F : Type 0} {K : Operations F} (C : Compares K) where
   open K use {zero as 𝟘}
 
-  pub eliminate_none : (r : List F) (vs : List (List F)) → All (λ v. dot K r v ≡ 𝟘) vs → eliminate_rows K r vs ≡ vs
+  pub eliminate_none : (r : List F) (vs : List (List F)) → Each (λ v. dot K r v ≡ 𝟘) vs → eliminate_rows K r vs ≡ vs
   eliminate_none r [] h = refl
   eliminate_none r (v ∷ vs) h =
       ap₂ (λ t xs. cond t (v ∷ xs) (clear_rows K r v vs)) (C.alike (dot K r v) 𝟘 h.0) (eliminate_none r vs h.1)
 
-  pub eliminate_at : (r : List F) (p : ℕ) (vs : List (List F)) → p < length vs → All (λ v. dot K r v ≡ 𝟘) (take p vs) → Nonzero K (dot K r (get_or vs p []))
+  pub eliminate_at : (r : List F) (p : ℕ) (vs : List (List F)) → p < length vs → Each (λ v. dot K r v ≡ 𝟘) (take p vs) → Nonzero K (dot K r (get_or vs p []))
       → eliminate_rows K r vs ≡ take p vs ++ clear_rows K r (get_or vs p []) (drop (suc p) vs)
   eliminate_at r p [] below h some = absurd (omega arith)
   eliminate_at r zero (v ∷ vs) below h some = ap (λ t. cond t (v ∷ eliminate_rows K r vs) (clear_rows K r v vs)) (apart_false C (dot K r v) 𝟘 some)

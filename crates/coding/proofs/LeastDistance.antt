@@ -1,7 +1,7 @@
 -- Two codewords differ in no place or in at least 17, so at most one lies within 8 places of a word; and a word with no syndrome is a codeword.
 use Rattle.std.proofs.Common.{◌≡◌, ℕ, ◌+◌, ◌-◌, ◌≤◌, List, ◌++◌, length, take, drop, sym, ap, ◌∙◌, subst, ap₂, arith, length-append, length-drop, take-append-drop}
 use native.Mathlib.Decide.{dec_le}
-use Rattle.std.specs.List.{AllByRecursion as All}
+use Rattle.std.specs.List.{AllByRecursion as Each}
 use Rattle.std.proofs.lemmas.List.{length-take-le}
 use Rattle.std.proofs.ByRecursion.{All-take}
 use Rattle.elements.specs.Octets.{octets, Octet, power}
@@ -23,16 +23,16 @@ pub octets_triangle : (u v w : List ℕ) → length u ≡ length v → length v 
 octets_triangle = differing_triangle octets_laws.compares
 
 -- a word of the code is one in the field of the octets
-pub in_code : (r : ℕ) (w : List ℕ) (h : All Octet w) → InCode octets power r w → InCode proper_ops alpha r (lift Octet w h)
+pub in_code : (r : ℕ) (w : List ℕ) (h : Each Octet w) → InCode octets power r w → InCode proper_ops alpha r (lift Octet w h)
 in_code r w h z k from to =
     part_path octets_field _ _
     (low_horner octets_field proper_ops.zero (lift Octet w h) (alpha k) ∙ ap (λ u. horner octets 0 u (power k)) (low_lift Octet w h) ∙ z k from to)
 
-pub differing_lift : (w c : List ℕ) (hw : All Octet w) (hc : All Octet c) → differing proper_ops (lift Octet w hw) (lift Octet c hc) ≡ differing octets w c
+pub differing_lift : (w c : List ℕ) (hw : Each Octet w) (hc : Each Octet c) → differing proper_ops (lift Octet w hw) (lift Octet c hc) ≡ differing octets w c
 differing_lift w c hw hc = low_differing octets_field (lift Octet w hw) (lift Octet c hc) ∙ ap₂ (differing octets) (low_lift Octet w hw) (low_lift Octet c hc)
 
 -- words of octets that vanish at r powers of alpha, and differ in at most r places, are the same
-pub code_apart : (r : ℕ) (w c : List ℕ) → All Octet w → All Octet c → length w ≡ length c → length w ≤ 255
+pub code_apart : (r : ℕ) (w c : List ℕ) → Each Octet w → Each Octet c → length w ≡ length c → length w ≤ 255
     → InCode octets power r w → InCode octets power r c → differing octets w c ≤ r → w ≡ c
 code_apart r w c hw hc len fits zw zc near =
     let w' = lift Octet w hw in
@@ -59,7 +59,7 @@ one_within w c d hc hd wc wd near_c near_d =
     same_codewords c d hc hd (sym wc ∙ wd) (omega (arith, octets_triangle c w d (sym wc) wd, octets_swap w c))
 
 -- a word that vanishes at alpha^1 to alpha^16 is a codeword
-pub codeword_from_zeros : (w : List ℕ) → All Octet w → 17 ≤ length w → length w ≤ 240 → InCode octets power 16 w → Codeword w
+pub codeword_from_zeros : (w : List ℕ) → Each Octet w → 17 ≤ length w → length w ≤ 240 → InCode octets power 16 w → Codeword w
 codeword_from_zeros w h long short zeros =
     let n = length w - 16 in
     let m = take n w in

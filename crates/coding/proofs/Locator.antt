@@ -1,6 +1,6 @@
 -- A list of coefficients that annuls the sums of powers in a row is a polynomial that vanishes at every locator.
 use Rattle.std.proofs.Common.{◌≡◌, ℕ, suc, ◌+◌, ◌<◌, ◌≤◌, List, [], ◌∷◌, length, sym, refl, ap, ◌∙◌, ap₂, arith}
-use Rattle.std.specs.List.{AllByRecursion as All}
+use Rattle.std.specs.List.{AllByRecursion as Each}
 use Rattle.elements.specs.Laws.{Operations}
 use Rattle.coding.specs.Field.{Field}
 use Rattle.coding.specs.Sums.{Distinct, Zero, Nonzero, pow, Vanishes, eval_low, slide}
@@ -47,13 +47,13 @@ module _ {F : Type 0} {K : Operations F} (L : Field K) where
   slide_psum [] ps k = sym (weigh_none ps k)
   slide_psum (v ∷ vs) ps k = ap (λ a. v ⊗ psum K ps k ⊕ a) (slide_psum vs ps (suc k)) ∙ sym (weigh_more v (eval_low K vs) ps k)
 
-  factor_zero : (f : F → F) (ps : List (Term F)) → All (λ p. Nonzero K p.value) ps → All (λ p. Zero K p.value) (weigh K f ps) → All (λ p. f p.at ≡ 𝟘) ps
+  factor_zero : (f : F → F) (ps : List (Term F)) → Each (λ p. Nonzero K p.value) ps → Each (λ p. Zero K p.value) (weigh K f ps) → Each (λ p. f p.at ≡ 𝟘) ps
   factor_zero f [] nz h = tt
   factor_zero f (p ∷ ps) nz h = (zero_factor L (f p.at) p.value nz.0 (mul_comm L (f p.at) p.value ∙ h.0), factor_zero f ps nz.1 h.1)
 
   -- what annuls n shifts of the sums of powers of n places or fewer vanishes at each of them
-  pub locator : (vs : List F) (ps : List (Term F)) (s n : ℕ) → length ps ≤ n → Distinct (locators ps) → All (Nonzero K) (locators ps)
-      → All (λ p. Nonzero K p.value) ps → Vanishes K (slide K vs (psum K ps)) s n → All (λ p. eval_low K vs p.at ≡ 𝟘) ps
+  pub locator : (vs : List F) (ps : List (Term F)) (s n : ℕ) → length ps ≤ n → Distinct (locators ps) → Each (Nonzero K) (locators ps)
+      → Each (λ p. Nonzero K p.value) ps → Vanishes K (slide K vs (psum K ps)) s n → Each (λ p. eval_low K vs p.at ≡ 𝟘) ps
   locator vs ps s n le distinct nonzero values van =
       let f = eval_low K vs in
       factor_zero f ps values (vandermonde L n s (weigh K f ps) (rw length_weigh le) (rw locators_weigh distinct) (rw locators_weigh nonzero)

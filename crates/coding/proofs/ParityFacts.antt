@@ -3,7 +3,7 @@ use Rattle.std.proofs.Common.{◌≡◌, ℕ, zero, suc, ◌+◌, ◌-◌, ◌<�
 use mathlib.Core.List.{map-append}
 use lib.Bits.{xor_zero_l}
 use lib.ListN.{length-replicate}
-use Rattle.std.specs.List.{AllByRecursion as All}
+use Rattle.std.specs.List.{AllByRecursion as Each}
 use Rattle.std.proofs.ByRecursion.{All-from_get_or, All-take, All-append}
 use Rattle.std.proofs.lemmas.List.{take_at, drop_at}
 use Rattle.elements.specs.Octets.{octets, Octet, double, times, product, squares, inverse, power}
@@ -33,7 +33,7 @@ tail_long : length tail ≡ 16
 unfolding tail generator roots_up_to power double product times
 tail_long = refl
 
-tail_octets : All Octet tail
+tail_octets : Each Octet tail
 unfolding tail generator roots_up_to power double product times
 tail_octets = All-from_get_or Octet tail 0 (λ i h. ltb→lt _ 256 (at (λ i. ltb (get_or tail i 0) 256) 16 tt i h))
 
@@ -77,8 +77,8 @@ tail' = lift Octet tail tail_octets
 left_low : (m : List Proper) → low (left proper_ops one' tail' m) ≡ parity (low m)
 left_low m = low_left octets_field one' tail' m ∙ ap (λ g. left octets 1 g (low m)) (low_lift Octet tail tail_octets) ∙ sym (parity_is (low m))
 
-pub parity_octets : (m : List ℕ) → All Octet m → All Octet (parity m)
-parity_octets m h = subst (All Octet) (left_low (lift Octet m h) ∙ ap parity (low_lift Octet m h)) (low_ok (left proper_ops one' tail' (lift Octet m h)))
+pub parity_octets : (m : List ℕ) → Each Octet m → Each Octet (parity m)
+parity_octets m h = subst (Each Octet) (left_low (lift Octet m h) ∙ ap parity (low_lift Octet m h)) (low_ok (left proper_ops one' tail' (lift Octet m h)))
 
 root' : (i : ℕ) → i < 16 → eval_high proper_ops (one' ∷ tail') (alpha (suc i)) ≡ proper_ops.zero
 root' i h =
@@ -88,7 +88,7 @@ root' i h =
     (low_horner octets_field proper_ops.zero (one' ∷ tail') x
     ∙ ap (λ g. horner octets 0 (1 ∷ g) (power (suc i))) (low_lift Octet tail tail_octets) ∙ generator_root i h)
 
-pub message_vanishes : (m : List ℕ) → All Octet m → (i : ℕ) → i < 16 → horner octets 0 (m ++ parity m) (power (suc i)) ≡ 0
+pub message_vanishes : (m : List ℕ) → Each Octet m → (i : ℕ) → i < 16 → horner octets 0 (m ++ parity m) (power (suc i)) ≡ 0
 message_vanishes m h i below =
     let x = alpha (suc i) in
     let m' = lift Octet m h in
@@ -99,12 +99,12 @@ message_vanishes m h i below =
     ∙ ap (λ e. e.0) (horner_eval proper w' x ∙ left_value proper one' one' x tail' (proper.mul-one one') (root' i below) m')
 
 -- a codeword is a message and its parity
-pub codeword_parts : (w : List ℕ) → Codeword w → (m : List ℕ) × All Octet m × (w ≡ m ++ parity m)
+pub codeword_parts : (w : List ℕ) → Codeword w → (m : List ℕ) × Each Octet m × (w ≡ m ++ parity m)
 codeword_parts w c =
     let n = length w - 16 in
     (take n w, All-take Octet n w c.octets_all, sym (take-append-drop n w) ∙ ap (λ r. take n w ++ r) c.ends)
 
-pub codeword_made : (m : List ℕ) → All Octet m → 1 ≤ length m → length m ≤ 224 → Codeword (m ++ parity m)
+pub codeword_made : (m : List ℕ) → Each Octet m → 1 ≤ length m → length m ≤ 224 → Codeword (m ++ parity m)
 codeword_made m h some few =
     let long : length (m ++ parity m) ≡ length m + 16 = length-append m (parity m) ∙ ap (λ n. length m + n) (length_parity m) in
     let n = length (m ++ parity m) - 16 in

@@ -1,6 +1,6 @@
 -- Sums of values, each times a power of its locator, and that enough of them in a row determine the values.
 use Rattle.std.proofs.Common.{◌≡◌, ℕ, zero, suc, ◌≤◌, List, [], ◌∷◌, length, sym, refl, ap, ◌∙◌, ap₂, arith}
-use Rattle.std.specs.List.{AllByRecursion as All}
+use Rattle.std.specs.List.{AllByRecursion as Each}
 use Rattle.elements.specs.Laws.{Operations}
 use Rattle.coding.specs.Field.{Field}
 use Rattle.coding.specs.Sums.{Distinct, Zero, Nonzero, pow, Vanishes}
@@ -44,7 +44,7 @@ module _ {F : Type 0} {K : Operations F} (L : Field K) where
   infixl 65 ◌⊕◌
   infixl 70 ◌⊗◌
   -- no value, no sum
-  pub psum_zero : (ps : List (Term F)) (i : ℕ) → All (λ p. Zero K p.value) ps → psum K ps i ≡ 𝟘
+  pub psum_zero : (ps : List (Term F)) (i : ℕ) → Each (λ p. Zero K p.value) ps → psum K ps i ≡ 𝟘
   psum_zero [] i h = refl
   psum_zero (p ∷ ps) i h =
       ap₂ (λ a b. a ⊗ pow K p.at i ⊕ b) h.0 (psum_zero ps i h.1) ∙ simp (ring, L)
@@ -58,11 +58,11 @@ module _ {F : Type 0} {K : Operations F} (L : Field K) where
   psum_less x (p ∷ ps) i = ap (λ a. p.value ⊗ (p.at ⊕ x) ⊗ pow K p.at i ⊕ a) (psum_less x ps i) ∙ less_step p.value x p.at (pow K p.at i) (psum K ps i) (psum K ps (suc i))
 
   -- a zero product, the factor away from zero
-  pub weigh_zero : (f : F → F) (ps : List (Term F)) → All (λ x. Nonzero K (f x)) (locators ps) → All (λ p. Zero K p.value) (weigh K f ps) → All (λ p. Zero K p.value) ps
+  pub weigh_zero : (f : F → F) (ps : List (Term F)) → Each (λ x. Nonzero K (f x)) (locators ps) → Each (λ p. Zero K p.value) (weigh K f ps) → Each (λ p. Zero K p.value) ps
   weigh_zero f [] away h = tt
   weigh_zero f (p ∷ ps) away h = (zero_factor L p.value (f p.at) away.0 h.0, weigh_zero f ps away.1 h.1)
 
-  apart_all : (x : F) (ys : List F) → All (λ y. ¬ (y ≡ x)) ys → All (λ y. Nonzero K (y ⊕ x)) ys
+  apart_all : (x : F) (ys : List F) → Each (λ y. ¬ (y ≡ x)) ys → Each (λ y. Nonzero K (y ⊕ x)) ys
   apart_all x [] h = tt
   apart_all x (y ∷ ys) h = (sum_apart L y x h.0, apart_all x ys h.1)
 
@@ -73,8 +73,8 @@ module _ {F : Type 0} {K : Operations F} (L : Field K) where
       regroup ∙ ap₂ (λ u v. u ⊕ x ⊗ v) k h ∙ simp (ring, L)
 
   -- Vandermonde: with distinct locators that are not zero, as many sums in a row that are zero as there are places leave no value
-  pub vandermonde : (n s : ℕ) (ps : List (Term F)) → length ps ≤ n → Distinct (locators ps) → All (Nonzero K) (locators ps)
-      → Vanishes K (psum K ps) s n → All (λ p. Zero K p.value) ps
+  pub vandermonde : (n s : ℕ) (ps : List (Term F)) → length ps ≤ n → Distinct (locators ps) → Each (Nonzero K) (locators ps)
+      → Vanishes K (psum K ps) s n → Each (λ p. Zero K p.value) ps
   vandermonde zero s [] le distinct nonzero van = tt
   vandermonde zero s (p ∷ ps) le distinct nonzero van = absurd (omega arith)
   vandermonde (suc n) s [] le distinct nonzero van = tt

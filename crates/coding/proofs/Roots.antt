@@ -1,7 +1,7 @@
 -- A polynomial of t + 1 coefficients that are not all zero has no more than t roots.
 use Rattle.std.proofs.Common.{◌≡◌, suc, ◌<◌, ◌≤◌, List, [], ◌∷◌, length, sym, refl, ap, ◌∙◌, ap₂, arith}
 use native.Mathlib.Decide.{dec_lt}
-use Rattle.std.specs.List.{AllByRecursion as All}
+use Rattle.std.specs.List.{AllByRecursion as Each}
 use Rattle.elements.specs.Laws.{Operations}
 use Rattle.coding.specs.Field.{Field}
 use Rattle.coding.specs.Sums.{Distinct, Zero, eval_low}
@@ -36,7 +36,7 @@ module _ {F : Type 0} {K : Operations F} (L : Field K) where
   length_quotient r v (u ∷ us) = ap suc (length_quotient r u us)
 
   -- a polynomial that divides to nothing and leaves nothing is nothing
-  pub zero_of_quotient : (r : F) (vs : List F) → eval_low K vs r ≡ 𝟘 → All (Zero K) (quotient K r vs) → All (Zero K) vs
+  pub zero_of_quotient : (r : F) (vs : List F) → eval_low K vs r ≡ 𝟘 → Each (Zero K) (quotient K r vs) → Each (Zero K) vs
   zero_of_quotient r [] h q = tt
   zero_of_quotient r (v ∷ []) h q = let here : v ⊕ r ⊗ 𝟘 ≡ 𝟘 = h in (simp (ring, L) at here, tt)
   zero_of_quotient r (v ∷ u ∷ us) h q =
@@ -44,8 +44,8 @@ module _ {F : Type 0} {K : Operations F} (L : Field K) where
       let here : v ⊕ r ⊗ 𝟘 ≡ 𝟘 = ap (λ a. v ⊕ r ⊗ a) (sym inner) ∙ h in
       (simp (ring, L) at here, zero_of_quotient r (u ∷ us) inner q.1)
 
-  others : (r : F) (vs : List F) → eval_low K vs r ≡ 𝟘 → (xs : List F) → All (λ x. ¬ (x ≡ r)) xs → All (λ x. eval_low K vs x ≡ 𝟘) xs
-      → All (λ x. eval_low K (quotient K r vs) x ≡ 𝟘) xs
+  others : (r : F) (vs : List F) → eval_low K vs r ≡ 𝟘 → (xs : List F) → Each (λ x. ¬ (x ≡ r)) xs → Each (λ x. eval_low K vs x ≡ 𝟘) xs
+      → Each (λ x. eval_low K (quotient K r vs) x ≡ 𝟘) xs
   others r vs h [] away zeros = tt
   others r vs h (x ∷ xs) away zeros =
       let q = eval_low K (quotient K r vs) x in
@@ -53,7 +53,7 @@ module _ {F : Type 0} {K : Operations F} (L : Field K) where
       (zero_factor L q (x ⊕ r) (sum_apart L x r away.0) product, others r vs h xs away.1 zeros.1)
 
   -- as many roots as coefficients: all coefficients are zero
-  pub many_roots : (rs vs : List F) → Distinct rs → All (λ r. eval_low K vs r ≡ 𝟘) rs → length vs ≤ length rs → All (Zero K) vs
+  pub many_roots : (rs vs : List F) → Distinct rs → Each (λ r. eval_low K vs r ≡ 𝟘) rs → length vs ≤ length rs → Each (Zero K) vs
   many_roots [] [] distinct zeros le = tt
   many_roots [] (v ∷ vs) distinct zeros le = absurd (omega arith)
   many_roots (r ∷ rs) [] distinct zeros le = tt
@@ -61,7 +61,7 @@ module _ {F : Type 0} {K : Operations F} (L : Field K) where
       zero_of_quotient r (v ∷ vs) zeros.0
       (many_roots rs (quotient K r (v ∷ vs)) distinct.1 (others r (v ∷ vs) zeros.0 rs distinct.0 zeros.1) (rw length_quotient (omega arith)))
 
-  pub few_roots : (rs vs : List F) → Distinct rs → All (λ r. eval_low K vs r ≡ 𝟘) rs → ¬ (All (Zero K) vs) → length rs < length vs
+  pub few_roots : (rs vs : List F) → Distinct rs → Each (λ r. eval_low K vs r ≡ 𝟘) rs → ¬ (Each (Zero K) vs) → length rs < length vs
   few_roots rs vs distinct zeros some =
       elim (dec_lt (length rs) (length vs)) [
         | yes below ↦ below

@@ -1,6 +1,6 @@
 -- The value at one of the candidates, from the sums of powers and the other candidates.
 use Rattle.std.proofs.Common.{◌≡◌, ℕ, suc, true, false, cond, ◌⊎◌, List, [], ◌∷◌, length, sym, refl, ap, ◌∙◌, ap₂, inl, inr}
-use Rattle.std.specs.List.{AllByRecursion as All}
+use Rattle.std.specs.List.{AllByRecursion as Each}
 use Rattle.elements.specs.Laws.{Operations}
 use Rattle.coding.specs.Field.{Field}
 use Rattle.coding.specs.Sums.{Nonzero, pow, eval_low, slide, times_root, from_roots}
@@ -51,7 +51,7 @@ module _ {F : Type 0} {K : Operations F} (L : Field K) where
   root_zero x (y ∷ ys) (inl e) = from_roots_more y ys x ∙ ap (λ a. (x ⊕ a) ⊗ eval_low K (from_roots K ys) x) (sym e) ∙ simp (ring, L)
   root_zero x (y ∷ ys) (inr h) = from_roots_more y ys x ∙ ap (λ a. (x ⊕ y) ⊗ a) (root_zero x ys h) ∙ simp (ring, L)
 
-  pub root_apart : (x : F) (ys : List F) → All (λ y. ¬ (y ≡ x)) ys → Nonzero K (eval_low K (from_roots K ys) x)
+  pub root_apart : (x : F) (ys : List F) → Each (λ y. ¬ (y ≡ x)) ys → Nonzero K (eval_low K (from_roots K ys) x)
   root_apart x [] h z = let one : 𝟙 ⊕ x ⊗ 𝟘 ≡ 𝟘 = z in L.one_not_zero (simp (ring, L) at one)
   root_apart x (y ∷ ys) h z =
       mul_apart L (x ⊕ y) (eval_low K (from_roots K ys) x) (sum_apart L x y (λ e. h.0 (sym e))) (root_apart x ys h.1) (sym (from_roots_more y ys x) ∙ z)
@@ -68,14 +68,14 @@ module _ {F : Type 0} {K : Operations F} (L : Field K) where
   pick_step a b d = simp (ring, L)
 
   -- a factor that vanishes at each locator but y picks the value at y
-  pub picked : (y : F) (f : F → F) (ps : List (Term F)) (k : ℕ) → All (λ x. (x ≡ y) ⊎ (f x ≡ 𝟘)) (locators ps)
+  pub picked : (y : F) (f : F → F) (ps : List (Term F)) (k : ℕ) → Each (λ x. (x ≡ y) ⊎ (f x ≡ 𝟘)) (locators ps)
       → psum K (weigh K f ps) k ≡ value_at K ps y ⊗ (f y ⊗ pow K y k)
   picked y f [] k h = simp (ring, L)
   picked y f (p ∷ ps) k h =
       let d = f y ⊗ pow K y k in
       ap₂ ◌⊕◌ (pick_here p.value p.at y f k h.0) (picked y f ps k h.1) ∙ pick_step (cond (same p.at y) p.value 𝟘) (value_at K ps y) d
 
-  seen : (y : F) (ys : List F) (xs : List F) → All (λ x. (x ≡ y) ⊎ Within x ys) xs → All (λ x. (x ≡ y) ⊎ (eval_low K (from_roots K ys) x ≡ 𝟘)) xs
+  seen : (y : F) (ys : List F) (xs : List F) → Each (λ x. (x ≡ y) ⊎ Within x ys) xs → Each (λ x. (x ≡ y) ⊎ (eval_low K (from_roots K ys) x ≡ 𝟘)) xs
   seen y ys [] h = tt
   seen y ys (x ∷ xs) h = (elim h.0 [ inl e ↦ inl e | inr k ↦ inr (root_zero x ys k) ], seen y ys xs h.1)
 
@@ -86,7 +86,7 @@ module _ {F : Type 0} {K : Operations F} (L : Field K) where
   value_step v p y = simp (ring, L)
 
   -- the value at y, where each locator is y or one of ys, and y is not zero and none of ys
-  pub value_from : (y : F) (ys : List F) (ps : List (Term F)) → Nonzero K y → All (λ z. ¬ (z ≡ y)) ys → All (λ x. (x ≡ y) ⊎ Within x ys) (locators ps)
+  pub value_from : (y : F) (ys : List F) (ps : List (Term F)) → Nonzero K y → Each (λ z. ¬ (z ≡ y)) ys → Each (λ x. (x ≡ y) ⊎ Within x ys) (locators ps)
       → value_at K ps y ≡ slide K (from_roots K ys) (psum K ps) 1 ⊗ inv (y ⊗ eval_low K (from_roots K ys) y)
   value_from y ys ps nonzero away among =
       let f = eval_low K (from_roots K ys) in

@@ -1,6 +1,6 @@
 -- The Reed-Solomon code: its generator, the parity of a message, and codewords.
 use Rattle.std.specs.Prelude.{◌≡◌, ℕ, zero, suc, ◌-◌, ◌≤◌, List, [], ◌∷◌, length, take, drop, replicate, ◌≢◌}
-use Rattle.std.specs.List.{AllByRecursion as All}
+use Rattle.std.specs.List.{AllByRecursion as Each}
 use Rattle.elements.specs.Octets.{octets, Octet, power}
 use Rattle.polynomials.specs.Polynomials.{poly_product}
 use Rattle.polynomials.specs.Checks.{check}
@@ -22,7 +22,7 @@ parity message = check octets generator (replicate 16 0) message
 
 -- a codeword: a message of 1 to 224 octets, followed by its parity
 pub record Codeword (w : List ℕ) : Type 0 where
-  pub octets_all : All Octet w
+  pub octets_all : Each Octet w
   pub long : 17 ≤ length w
   pub short : length w ≤ 240
   pub ends : drop (length w - 16) w ≡ parity (take (length w - 16) w)

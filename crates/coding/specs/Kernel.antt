@@ -1,6 +1,6 @@
 -- Vectors that solve equations, by elimination over rows that start as the unit vectors.
 use Rattle.std.specs.Prelude.{◌≡◌, ℕ, zero, suc, cond, List, [], ◌∷◌, length, replicate}
-use Rattle.std.specs.List.{AllByRecursion as All}
+use Rattle.std.specs.List.{AllByRecursion as Each}
 use Rattle.elements.specs.Laws.{Operations}
 use Rattle.coding.specs.Sums.{Zero}
 
@@ -52,5 +52,5 @@ module _ {F : Type 0} (K : Operations F) where
   -- a vector of n coordinates, not all zero, that solves each of the equations rs
   pub record Solves (n : ℕ) (rs : List (List F)) (v : List F) : Type 0 where
     pub long : length v ≡ n
-    pub solves : All (λ r. dot r v ≡ 𝟘) rs
-    pub some : ¬ (All (Zero K) v)
+    pub solves : Each (λ r. dot r v ≡ 𝟘) rs
+    pub some : ¬ (Each (Zero K) v)

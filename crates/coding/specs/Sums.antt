@@ -1,12 +1,12 @@
 -- Powers, and polynomials as rows of coefficients.
 use Rattle.std.specs.Prelude.{◌≡◌, ℕ, zero, suc, ◌+◌, ◌<◌, ◌≤◌, List, [], ◌∷◌}
-use Rattle.std.specs.List.{AllByRecursion as All}
+use Rattle.std.specs.List.{AllByRecursion as Each}
 use Rattle.elements.specs.Laws.{Operations}
 
 -- no two of the row are equal
 abbrev pub Distinct : {A : Type 0} → List A → Type 0
 Distinct [] = Unit {0}
-Distinct (x ∷ xs) = All (λ y. ¬ (y ≡ x)) xs × Distinct xs
+Distinct (x ∷ xs) = Each (λ y. ¬ (y ≡ x)) xs × Distinct xs
 
 module _ {F : Type 0} (K : Operations F) where
   open K use {zero as 𝟘, one as 𝟙, add as ◌⊕◌, mul as ◌⊗◌}

@@ -1,6 +1,6 @@
 -- A header word, and what is read of its chips.
 use Rattle.std.proofs.Common.{◌≡◌, ℕ, zero, suc, ◌+◌, ◌-◌, ◌*◌, ◌^◌, ◌<◌, ◌≤◌, Bool, true, cond, not, leb, List, [], ◌∷◌, ◌++◌, map, length, take, drop, replicate, sym, refl, ap, ◌∙◌, ap₂, suc-mul, zero-mul, arith}
-use Rattle.std.specs.List.{AllByRecursion as All}
+use Rattle.std.specs.List.{AllByRecursion as Each}
 use Rattle.std.proofs.lemmas.List.{append_assoc, append-nil, length-append, take_at, drop_at}
 use Rattle.std.proofs.ByRecursion.{All-append, All-map}
 use Rattle.elements.specs.Octets.{Octet}
@@ -39,13 +39,13 @@ most zero h = refl
 most (suc zero) h = refl
 most (suc (suc b)) h = absurd (omega arith)
 
-pub majorities_repeated : (bs : List ℕ) → All Bit bs → majorities (length bs) (repeated 16 bs) ≡ bs
+pub majorities_repeated : (bs : List ℕ) → Each Bit bs → majorities (length bs) (repeated 16 bs) ≡ bs
 unfolding majorities repeated
 majorities_repeated [] h = refl
 majorities_repeated (b ∷ bs) h =
     ap₂ (λ x xs. x ∷ xs) (ap (λ n. cond (leb 9 n) 1 0) (ones_replicate 16 b) ∙ most b h.0) (majorities_repeated bs h.1)
 
-pub despread_chips : (word : List ℕ) → length word ≡ 32 → All Octet word → despread (header_chips word) ≡ word
+pub despread_chips : (word : List ℕ) → length word ≡ 32 → Each Octet word → despread (header_chips word) ≡ word
 unfolding despread header_chips
 despread_chips word e h =
     let bs = line word in
@@ -70,7 +70,7 @@ frame_parts f rest =
 
 -- ---- the word
 
-pub message_codeword : (m : List ℕ) → All Octet m → 1 ≤ length m → length m ≤ 224 → Codeword (m ++ parity m)
+pub message_codeword : (m : List ℕ) → Each Octet m → 1 ≤ length m → length m ≤ 224 → Codeword (m ++ parity m)
 message_codeword m h low high =
     let e : length (m ++ parity m) ≡ length m + 16 = length-append m (parity m) ∙ ap (λ n. length m + n) (length_parity m) in
     let n : length m ≡ length (m ++ parity m) - 16 = omega arith in
@@ -81,11 +81,11 @@ message_codeword m h low high =
       ends = drop_at m (parity m) (length (m ++ parity m) - 16) n ∙ ap parity (sym (take_at m (parity m) (length (m ++ parity m) - 16) n));
     }
 
-pub hcs_octets : (os : List ℕ) → All Octet (hcs os)
+pub hcs_octets : (os : List ℕ) → Each Octet (hcs os)
 unfolding hcs
 hcs_octets os = octets_of_octets 2 _ (All-map Bit (λ t. bit_of (not t)) (check bit_ops hcs_generator (replicate 16 true) (map flag (line os))) (each _))
   where
-    each : (ts : List Bool) → All (λ t. Bit (bit_of (not t))) ts
+    each : (ts : List Bool) → Each (λ t. Bit (bit_of (not t))) ts
     each [] = tt
     each (t ∷ ts) = (bit_of_below (not t), each ts)
 
@@ -102,7 +102,7 @@ module _ (h : Phy) (mac : List ℕ) (ten : length mac ≡ 10) where
   secret_long : length secret ≡ 12
   secret_long = omega (arith, length_mixed (scrambler h.seed) plain, length-append mac (hcs (phy ++ mac)), length_hcs (phy ++ mac))
 
-  pub header_codeword : All Octet mac → Codeword (header_word h mac)
+  pub header_codeword : Each Octet mac → Codeword (header_word h mac)
   unfolding header_word header_message
   header_codeword ok =
       let long : length (phy ++ secret) ≡ 16 = omega (arith, length-append phy secret, length_phy_octets h, secret_long) in
@@ -147,7 +147,7 @@ header_at f rest ten =
     ap (take 4096) (ap (drop (2560 * (row f.mode).channels)) (frame_parts f rest) ∙ drop_at (preamble f.mode) _ _ (length_preamble f.mode))
     ∙ take_at (header_chips word) (payload_of f ++ rest) 4096 (length_header_chips word (length_header_word (phy_of f) f.mac ten))
 
-pub header_back : (f : Frame) (rest : List ℕ) → length f.mac ≡ 10 → All Octet f.mac
+pub header_back : (f : Frame) (rest : List ℕ) → length f.mac ≡ 10 → Each Octet f.mac
     → header_read (row f.mode).channels (frame_chips f ++ rest) ≡ header_word (phy_of f) f.mac
 unfolding header_read
 header_back f rest ten ok =

@@ -1,7 +1,7 @@
 -- Octets as bits in line order, and back.
 use Rattle.std.proofs.Common.{◌≡◌, ℕ, zero, suc, ◌+◌, ◌-◌, ◌*◌, ◌/◌, ◌%◌, ◌^◌, ◌<◌, ◌≤◌, List, [], ◌∷◌, ◌++◌, length, get_or, take, drop, sym, refl, ap, ◌∙◌, ap₂, le_trans, mul_comm, pow-suc, arith, pow_mono}
 use native.Mathlib.Nat.{div-div-eq-div-mul}
-use Rattle.std.specs.List.{AllByRecursion as All}
+use Rattle.std.specs.List.{AllByRecursion as Each}
 use Rattle.std.proofs.lemmas.List.{take_at, drop_at, append_assoc, length-take, get_or_append_left, get_or-append_right}
 use Rattle.std.proofs.ByRecursion.{All-append, All-take, All-drop}
 use Rattle.elements.specs.Octets.{Octet}
@@ -14,17 +14,17 @@ Bit b = b < 2
 
 -- ---- a number and its bits
 
-pub bits_below : (n o : ℕ) → All Bit (bits n o)
+pub bits_below : (n o : ℕ) → Each Bit (bits n o)
 unfolding bits
 bits_below zero o = tt
 bits_below (suc n) o = (omega arith, bits_below n (o / 2))
 
-pub value_below : (bs : List ℕ) → All Bit bs → value bs < 2 ^ length bs
+pub value_below : (bs : List ℕ) → Each Bit bs → value bs < 2 ^ length bs
 value_below [] h = omega arith
 value_below (b ∷ bs) h = omega (arith, h.0, value_below bs h.1, pow-suc 2 (length bs))
 
 -- eight bits, or fewer, are an octet
-pub value_octet : (bs : List ℕ) → All Bit bs → length bs ≤ 8 → Octet (value bs)
+pub value_octet : (bs : List ℕ) → Each Bit bs → length bs ≤ 8 → Octet (value bs)
 value_octet bs h le = le_trans (value_below bs h) (pow_mono le)
 
 pub value_bits : (n o : ℕ) → o < 2 ^ n → value (bits n o) ≡ o
@@ -32,7 +32,7 @@ unfolding bits
 value_bits zero o h = omega arith
 value_bits (suc n) o h = omega (arith, value_bits n (o / 2) (omega (arith, pow-suc 2 n)))
 
-pub bits_value : (bs : List ℕ) → All Bit bs → bits (length bs) (value bs) ≡ bs
+pub bits_value : (bs : List ℕ) → Each Bit bs → bits (length bs) (value bs) ≡ bs
 unfolding bits
 bits_value [] h = refl
 bits_value (b ∷ bs) h =
@@ -49,7 +49,7 @@ get_d_bits (suc n) o (suc i) h =
 
 -- ---- octets in line order
 
-pub line_bits : (os : List ℕ) → All Bit (line os)
+pub line_bits : (os : List ℕ) → Each Bit (line os)
 unfolding line
 line_bits [] = tt
 line_bits (o ∷ os) = All-append Bit (bits 8 o) (line os) (bits_below 8 o) (line_bits os)
@@ -59,7 +59,7 @@ unfolding line
 line_append [] ys = refl
 line_append (x ∷ xs) ys = ap (λ l. bits 8 x ++ l) (line_append xs ys) ∙ sym (append_assoc (bits 8 x) (line xs) (line ys))
 
-pub octets_of_line : (os rest : List ℕ) → All Octet os → octets_of (length os) (line os ++ rest) ≡ os
+pub octets_of_line : (os rest : List ℕ) → Each Octet os → octets_of (length os) (line os ++ rest) ≡ os
 unfolding octets_of line
 octets_of_line [] rest h = refl
 octets_of_line (o ∷ os) rest h =
@@ -68,7 +68,7 @@ octets_of_line (o ∷ os) rest h =
     (ap value (ap (take 8) e ∙ take_at (bits 8 o) (line os ++ rest) 8 (length_bits 8 o)) ∙ value_bits 8 o h.0)
     (ap (octets_of (length os)) (ap (drop 8) e ∙ drop_at (bits 8 o) (line os ++ rest) 8 (length_bits 8 o)) ∙ octets_of_line os rest h.1)
 
-pub octets_of_octets : (n : ℕ) (bs : List ℕ) → All Bit bs → All Octet (octets_of n bs)
+pub octets_of_octets : (n : ℕ) (bs : List ℕ) → Each Bit bs → Each Octet (octets_of n bs)
 unfolding octets_of
 octets_of_octets zero bs h = tt
 octets_of_octets (suc n) bs h =

@@ -1,6 +1,6 @@
 -- The payload of a frame, and what is read of its chips: each bit, each octet and each body word.
 use Rattle.std.proofs.Common.{◌≡◌, ℕ, zero, suc, ◌+◌, ◌-◌, ◌*◌, ◌/◌, ◌%◌, ◌<◌, ◌≤◌, min, leb, List, [], ◌∷◌, ◌++◌, map, length, get_or, take, drop, replicate, sym, refl, ap, ◌∙◌, subst, ap₂, suc-add, mul-le-mul_left, mul-zero, zero-add, mul-suc, arith}
-use Rattle.std.specs.List.{AllByRecursion as All, range_with_len}
+use Rattle.std.specs.List.{AllByRecursion as Each, range_with_len}
 use Rattle.std.proofs.lemmas.List.{append_assoc, length-append, length-drop, length-take, take_at, drop_at, drop-drop, drop_all, take-append-drop, ext_get_or, get_or-take, get_or-drop, get_or_append_left, get_or-append-add, get_or-replicate, length-replicate}
 use Rattle.std.proofs.lemmas.List.FromFn.{length-map-range_with_len, get_or-map-range_with_len, fill_by_all}
 use Rattle.std.proofs.ByRecursion.{All-append, All-take, All-drop, All-get_or}
@@ -130,7 +130,7 @@ module _ (f : Frame) (rest : List ℕ) (ten : length f.mac ≡ 10) where
 
 -- ---- octets
 
-pub coded_octets_all : (k : ℕ) (os : List ℕ) → All Octet os → All Octet (coded k os)
+pub coded_octets_all : (k : ℕ) (os : List ℕ) → Each Octet os → Each Octet (coded k os)
 unfolding coded
 coded_octets_all zero os h = tt
 coded_octets_all (suc k) os h =
@@ -138,7 +138,7 @@ coded_octets_all (suc k) os h =
     let hm = All-take Octet 224 os h in
     All-append Octet (m ++ parity m) (coded k (drop 224 os)) (All-append Octet m (parity m) hm (parity_octets m hm)) (coded_octets_all k (drop 224 os) (All-drop Octet 224 os h))
 
-pub body_octets_all : (seed : ℕ) (body : List ℕ) → All Octet body → All Octet (body_octets seed body)
+pub body_octets_all : (seed : ℕ) (body : List ℕ) → Each Octet body → Each Octet (body_octets seed body)
 unfolding body_octets
 body_octets_all seed body h =
     coded_octets_all (word_count (length body)) (mixed (after 96 (scrambler seed)) body) (mixed_octets (after 96 (scrambler seed)) body h)
@@ -152,7 +152,7 @@ payload_line seed body j i hj hi =
     let long = length_body_octets seed body in
     get_or_append_left (line os) _ 0 (8 * j + i) (omega (arith, length_line os)) ∙ get_or_line os j i (omega arith) hi
 
-module _ (f : Frame) (rest : List ℕ) (ten : length f.mac ≡ 10) (ok : All Octet f.body) where
+module _ (f : Frame) (rest : List ℕ) (ten : length f.mac ≡ 10) (ok : Each Octet f.body) where
   pub octet_back : (j : ℕ) → j < coded_octets (length f.body) → payload_octet f.mode (frame_chips f ++ rest) j ≡ get_or (body_octets f.seed f.body) j 0
   unfolding payload_octet
   octet_back j h =
@@ -239,7 +239,7 @@ module _ (f : Frame) where
   pub length_own_word : (k : ℕ) → k < word_count (length f.body) → length (own_word f k) ≡ word_length (length f.body) k
   length_own_word k h = ap length (own_word_is k h) ∙ length_whole (message_of f k) ∙ ap (λ n. n + 16) (length_message_of k)
 
-  pub word_codeword : All Octet f.body → (k : ℕ) → k < word_count (length f.body) → Codeword (own_word f k)
+  pub word_codeword : Each Octet f.body → (k : ℕ) → k < word_count (length f.body) → Codeword (own_word f k)
   word_codeword ok k h =
       let long = length_message_of k in
       subst Codeword (sym (own_word_is k h))

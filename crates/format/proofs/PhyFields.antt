@@ -1,6 +1,6 @@
 -- The PHY header as a number and as octets, and back.
 use Rattle.std.proofs.Common.{◌≡◌, ℕ, zero, suc, ◌/◌, ◌%◌, ◌^◌, ◌<◌, Bool, true, false, eqb, List, [], ◌∷◌, length, refl, ap, ◌∙◌, pow-suc, arith}
-use Rattle.std.specs.List.{AllByRecursion as All}
+use Rattle.std.specs.List.{AllByRecursion as Each}
 use Rattle.elements.specs.Octets.{Octet}
 use Rattle.format.specs.declared.phy.Phy.{Phy}
 use Rattle.format.specs.Bits.{bit_of}
@@ -8,7 +8,7 @@ use Rattle.format.specs.Header.{packed, unpacked, low_first, joined, phy_octets}
 
 -- ---- a number as octets
 
-pub low_first_octets : (n v : ℕ) → All Octet (low_first n v)
+pub low_first_octets : (n v : ℕ) → Each Octet (low_first n v)
 unfolding low_first
 low_first_octets zero v = tt
 low_first_octets (suc n) v = (omega arith, low_first_octets n (v / 256))
@@ -18,7 +18,7 @@ unfolding joined low_first
 joined_low_first zero v h = omega arith
 joined_low_first (suc n) v h = omega (arith, joined_low_first n (v / 256) (omega (arith, pow-suc 256 n)))
 
-pub joined_below : (os : List ℕ) → All Octet os → joined os < 256 ^ length os
+pub joined_below : (os : List ℕ) → Each Octet os → joined os < 256 ^ length os
 unfolding joined
 joined_below [] h = omega arith
 joined_below (o ∷ os) h = omega (arith, h.0, joined_below os h.1, pow-suc 256 (length os))
@@ -48,7 +48,7 @@ unpacked_packed h hs hl hr =
     (ap (λ x. eqb x 1) (let e : packed h / 2 ^ 4 % 2 ≡ bit_of h.aggregation = omega arith in e) ∙ eqb_bit_of h.aggregation)
     (omega arith) (omega arith)
 
-pub phy_octets_octets : (h : Phy) → All Octet (phy_octets h)
+pub phy_octets_octets : (h : Phy) → Each Octet (phy_octets h)
 unfolding phy_octets
 phy_octets_octets h = low_first_octets 4 (packed h)
 

@@ -1,6 +1,6 @@
 -- Words that are codewords are the words of the frame that is read from them.
 use Rattle.std.proofs.Common.{◌≡◌, ℕ, zero, suc, ◌+◌, ◌-◌, ◌*◌, ◌/◌, ◌%◌, ◌^◌, ◌<◌, ◌≤◌, min, Bool, true, false, cond, eqb, List, [], ◌∷◌, ◌++◌, length, take, drop, Some, sym, refl, ap, ◌∙◌, subst, ap₂, zero-add, arith}
-use Rattle.std.specs.List.{AllByRecursion as All}
+use Rattle.std.specs.List.{AllByRecursion as Each}
 use Rattle.std.proofs.lemmas.List.{append-nil, length-append, length-take, length-take-le, length-drop, take_all, take-take, take_at, drop_at, drop-drop, drop-take, take-append-drop}
 use Rattle.std.proofs.ByRecursion.{All-append, All-take, All-drop}
 use Rattle.std.proofs.lemmas.Bool.Decides.{nat_tests}
@@ -37,7 +37,7 @@ packed_unpacked v h =
     let q : v / 2 ^ 28 ≡ v / 2 ^ 5 / 2 ^ 23 = omega arith in
     omega (arith, bit_of_eqb (v / 2 ^ 4 % 2) (omega arith))
 
-pub low_first_joined : (os : List ℕ) → All Octet os → low_first (length os) (joined os) ≡ os
+pub low_first_joined : (os : List ℕ) → Each Octet os → low_first (length os) (joined os) ≡ os
 unfolding low_first joined
 low_first_joined [] h = refl
 low_first_joined (o ∷ os) h =
@@ -75,7 +75,7 @@ module _ (h : List ℕ) (code : Codeword h) (long : length h ≡ 32) where
   abbrev middle : List ℕ
   middle = take 12 (drop 4 h)
 
-  front_octets : All Octet front
+  front_octets : Each Octet front
   front_octets = All-take Octet 4 h code.octets_all
 
   front_long : length front ≡ 4
@@ -103,7 +103,7 @@ module _ (h : List ℕ) (code : Codeword h) (long : length h ≡ 32) where
   pub length_mac_read : length (mac_read h) ≡ 10
   length_mac_read = length-take-le 10 (plain_read h) (omega (arith, length_plain))
 
-  pub mac_read_octets : All Octet (mac_read h)
+  pub mac_read_octets : Each Octet (mac_read h)
   unfolding plain_read
   mac_read_octets = All-take Octet 10 (plain_read h) (mixed_octets _ middle (All-take Octet 12 (drop 4 h) (All-drop Octet 4 h code.octets_all)))
 
@@ -136,7 +136,7 @@ module _ (seed L : ℕ) (vs : ℕ → List ℕ) (each : (k : ℕ) → k < word_c
   messages_long (suc n) k e =
       omega (arith, length-append (message (vs k)) (messages n (suc k) vs), message_long k (omega arith), messages_long n (suc k) (omega arith))
 
-  messages_octets : (n k : ℕ) → k + n ≡ word_count L → All Octet (messages n k vs)
+  messages_octets : (n k : ℕ) → k + n ≡ word_count L → Each Octet (messages n k vs)
   unfolding messages
   messages_octets zero k e = tt
   messages_octets (suc n) k e =
@@ -163,7 +163,7 @@ module _ (seed L : ℕ) (vs : ℕ → List ℕ) (each : (k : ℕ) → k < word_c
   unfolding body_read
   length_body_read = length_mixed _ (messages (word_count L) 0 vs) ∙ messages_long (word_count L) 0 (zero-add _) ∙ omega arith
 
-  pub body_read_octets : All Octet (body_read seed (word_count L) vs)
+  pub body_read_octets : Each Octet (body_read seed (word_count L) vs)
   unfolding body_read
   body_read_octets = mixed_octets _ (messages (word_count L) 0 vs) (messages_octets (word_count L) 0 (zero-add _))
 

@@ -1,7 +1,7 @@
 -- Scrambling twice gives the octets back, and the sequence goes on from one part to the next.
 use Rattle.std.proofs.Common.{◌≡◌, ℕ, zero, suc, ◌+◌, ◌*◌, ◌<◌, List, [], ◌∷◌, ◌++◌, length, sym, refl, ap, ◌∙◌, ap₂, suc-add, zero-add, arith}
 use lib.Bits.{bit_xor, xor_assoc, xor_self, xor_zero_r, xor_lt}
-use Rattle.std.specs.List.{AllByRecursion as All}
+use Rattle.std.specs.List.{AllByRecursion as Each}
 use Rattle.elements.specs.Octets.{Octet}
 use Rattle.format.specs.Sequences.{next, advanced, after, drawn, key, mixed}
 use Rattle.format.proofs.Lengths.{length_drawn}
@@ -18,7 +18,7 @@ pub next_bit : (r : ℕ) → next r < 2
 unfolding next
 next_bit r = omega arith
 
-pub drawn_bits : (n r : ℕ) → All Bit (drawn n r)
+pub drawn_bits : (n r : ℕ) → Each Bit (drawn n r)
 unfolding drawn
 drawn_bits zero r = tt
 drawn_bits (suc n) r = (next_bit r, drawn_bits n (advanced r))
@@ -29,7 +29,7 @@ key_octet r = value_octet (drawn 8 r) (drawn_bits 8 r) (omega (arith, length_dra
 
 -- ---- octets with the sequence added
 
-pub mixed_octets : (r : ℕ) (os : List ℕ) → All Octet os → All Octet (mixed r os)
+pub mixed_octets : (r : ℕ) (os : List ℕ) → Each Octet os → Each Octet (mixed r os)
 unfolding mixed
 mixed_octets r [] h = tt
 mixed_octets r (o ∷ os) h = (xor_lt 8 o (key r) h.0 (key_octet r), mixed_octets (after 8 r) os h.1)

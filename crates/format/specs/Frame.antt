@@ -1,6 +1,6 @@
 -- A frame, chip for chip.
 use Rattle.std.specs.Prelude.{◌≡◌, ℕ, zero, suc, ◌+◌, ◌*◌, ◌<◌, ◌≤◌, Bool, true, cond, List, [], ◌∷◌, ◌++◌, length, bit_xor}
-use Rattle.std.specs.List.{AllByRecursion as All}
+use Rattle.std.specs.List.{AllByRecursion as Each}
 use Rattle.elements.specs.Octets.{Octet}
 use Rattle.format.specs.declared.mode.Mode.{Mode}
 use Rattle.format.specs.declared.phy.Phy.{Phy}
@@ -23,9 +23,9 @@ pub record Frame : Type 0 where
 pub record Lawful (f : Frame) : Type 0 where
   pub seed_fits : f.seed < 16
   pub mac_long : length f.mac ≡ 10
-  pub mac_octets : All Octet f.mac
+  pub mac_octets : Each Octet f.mac
   pub body_short : length f.body ≤ 2048
-  pub body_octets : All Octet f.body
+  pub body_octets : Each Octet f.body
 
 -- n copies of a row
 unfoldable pub copies : ℕ → List ℕ → List ℕ

@@ -1,6 +1,6 @@
 -- Steps of elimination over rows of octets in an array, the rows in use first.
 use Rattle.std.proofs.Common.{◌≡◌, ℕ, zero, suc, ◌+◌, ◌-◌, ◌<◌, ◌≤◌, List, [], ◌∷◌, ◌++◌, length, get_or, take, drop, set, sym, refl, ap, ◌∙◌, subst, ap₂, add-one, arith}
-use Rattle.std.specs.List.{AllByRecursion as All}
+use Rattle.std.specs.List.{AllByRecursion as Each}
 use Rattle.std.proofs.lemmas.List.{append_assoc, append-nil, drop_more, drop_all, take-take, take_more_set, get_or-take, length-take-le}
 use Rattle.elements.specs.Octets.{octets, product, inverse}
 use Rattle.coding.specs.Sums.{Nonzero}
@@ -48,13 +48,13 @@ clear_all r p rows n fits =
 
 -- the first row that does not solve the equation goes
 pub eliminate_row : (r : List ℕ) (rows left : List (List ℕ)) (p n : ℕ) → p < n → n ≤ length rows
-    → All (λ v. dot octets r v ≡ 0) (take p rows) → Nonzero octets (dot octets r (get_or rows p []))
+    → Each (λ v. dot octets r v ≡ 0) (take p rows) → Nonzero octets (dot octets r (get_or rows p []))
     → left ≡ take p rows ++ clear_rows octets r (get_or rows p []) (drop (p + 1) (take n rows)) → left ≡ eliminate_rows octets r (take n rows)
 eliminate_row r rows left p n below fits solved unsolved cleared =
     let same_front = take-take p n rows (omega arith) in
     let same_row = get_or-take n rows p [] below in
     cleared
-    ∙ sym (octets_eliminate_at r p (take n rows) (omega (arith, length-take-le n rows fits)) (subst (All (λ v. dot octets r v ≡ 0)) (sym same_front) solved)
+    ∙ sym (octets_eliminate_at r p (take n rows) (omega (arith, length-take-le n rows fits)) (subst (Each (λ v. dot octets r v ≡ 0)) (sym same_front) solved)
     (subst (λ v. Nonzero octets (dot octets r v)) (sym same_row) unsolved)
     ∙ ap₂ (λ a b. a ++ clear_rows octets r b (drop (suc p) (take n rows))) same_front same_row
     ∙ ap (λ k. take p rows ++ clear_rows octets r (get_or rows p []) (drop k (take n rows))) (sym (add-one p)))

@@ -1,6 +1,6 @@
 -- Elimination over rows that are wider than the equations does to their first coordinates what it does to rows of the equations' width.
 use Rattle.std.proofs.Common.{◌≡◌, ℕ, zero, suc, ◌<◌, ◌≤◌, Bool, true, false, cond, List, [], ◌∷◌, map, length, get_or, take, sym, refl, ap, ◌∙◌, subst, ap₂, arith}
-use Rattle.std.specs.List.{AllByRecursion as All}
+use Rattle.std.specs.List.{AllByRecursion as Each}
 use Rattle.std.proofs.lemmas.List.{take-replicate, length-replicate, length-map, get_or-take}
 use Rattle.elements.specs.Laws.{Operations}
 use Rattle.elements.specs.Octets.{octets, Octet}
@@ -41,7 +41,7 @@ module _ {F : Type 0} (K : Operations F) where
   length_add_mul c (a ∷ u) (b ∷ v) e = ap suc (length_add_mul c u v (omega arith))
 
   module _ (m n : ℕ) where
-    narrow_clear : (r p : List F) (vs : List (List F)) → Narrow n r → Wide m p → All (Wide m) vs
+    narrow_clear : (r p : List F) (vs : List (List F)) → Narrow n r → Wide m p → Each (Wide m) vs
         → map (take n) (clear_rows K r p vs) ≡ clear_rows K r (take n p) (map (take n) vs)
     narrow_clear r p [] hr hp hv = refl
     narrow_clear r p (v ∷ vs) hr hp hv =
@@ -50,7 +50,7 @@ module _ {F : Type 0} (K : Operations F) where
         ∙ ap₂ (λ a b. add_mul K (a ⊗ inv b) (take n v) (take n p)) (sym (dot_take n r v hr)) (sym (dot_take n r p hr)))
         (narrow_clear r p vs hr hp hv.1)
 
-    wide_clear : (r p : List F) (vs : List (List F)) → Wide m p → All (Wide m) vs → All (Wide m) (clear_rows K r p vs)
+    wide_clear : (r p : List F) (vs : List (List F)) → Wide m p → Each (Wide m) vs → Each (Wide m) (clear_rows K r p vs)
     wide_clear r p [] hp hv = tt
     wide_clear r p (v ∷ vs) hp hv = (length_add_mul (dot K r v ⊗ inv (dot K r p)) v p (hv.0 ∙ sym hp) ∙ hv.0, wide_clear r p vs hp hv.1)
 
@@ -58,7 +58,7 @@ module _ {F : Type 0} (K : Operations F) where
     map_cond true xs ys = refl
     map_cond false xs ys = refl
 
-    narrow_eliminate : (r : List F) (vs : List (List F)) → Narrow n r → All (Wide m) vs
+    narrow_eliminate : (r : List F) (vs : List (List F)) → Narrow n r → Each (Wide m) vs
         → map (take n) (eliminate_rows K r vs) ≡ eliminate_rows K r (map (take n) vs)
     narrow_eliminate r [] hr hv = refl
     narrow_eliminate r (v ∷ vs) hr hv =
@@ -66,14 +66,14 @@ module _ {F : Type 0} (K : Operations F) where
         ∙ ap₂ (λ x y. cond (same (dot K r v) 𝟘) (take n v ∷ x) y) (narrow_eliminate r vs hr hv.1) (narrow_clear r v vs hr hv.0 hv.1)
         ∙ ap (λ d. cond (same d 𝟘) (take n v ∷ eliminate_rows K r (map (take n) vs)) (clear_rows K r (take n v) (map (take n) vs))) (sym (dot_take n r v hr))
 
-    wide_eliminate : (r : List F) (vs : List (List F)) → All (Wide m) vs → All (Wide m) (eliminate_rows K r vs)
+    wide_eliminate : (r : List F) (vs : List (List F)) → Each (Wide m) vs → Each (Wide m) (eliminate_rows K r vs)
     wide_eliminate r [] hv = tt
     wide_eliminate r (v ∷ vs) hv =
         let rest = wide_eliminate r vs hv.1 in
         let cleared = wide_clear r v vs hv.0 hv.1 in
-        elim (same (dot K r v) 𝟘) as (λ t. All (Wide m) (cond t (v ∷ eliminate_rows K r vs) (clear_rows K r v vs))) [ true ↦ (hv.0, rest) | false ↦ cleared ]
+        elim (same (dot K r v) 𝟘) as (λ t. Each (Wide m) (cond t (v ∷ eliminate_rows K r vs) (clear_rows K r v vs))) [ true ↦ (hv.0, rest) | false ↦ cleared ]
 
-    narrow_kernel : (rs vs : List (List F)) → All (Narrow n) rs → All (Wide m) vs → map (take n) (kernel_rows K rs vs) ≡ kernel_rows K rs (map (take n) vs)
+    narrow_kernel : (rs vs : List (List F)) → Each (Narrow n) rs → Each (Wide m) vs → map (take n) (kernel_rows K rs vs) ≡ kernel_rows K rs (map (take n) vs)
     narrow_kernel [] vs hr hv = refl
     narrow_kernel (r ∷ rs) vs hr hv =
         narrow_kernel rs (eliminate_rows K r vs) hr.1 (wide_eliminate r vs hv) ∙ ap (kernel_rows K rs) (narrow_eliminate r vs hr.0 hv)
@@ -93,7 +93,7 @@ module _ {F : Type 0} (K : Operations F) where
   narrow_units n m i zero le = refl
   narrow_units n m i (suc k) le = ap₂ {C = List (List F)} (λ x xs. x ∷ xs) (take_unit n m i le) (narrow_units n m (suc i) k le)
 
-  wide_units : (m i k : ℕ) → All (Wide m) (unit_rows K m i k)
+  wide_units : (m i k : ℕ) → Each (Wide m) (unit_rows K m i k)
   wide_units m i zero = tt
   wide_units m i (suc k) = (length_unit m i, wide_units m (suc i) k)
 
@@ -103,14 +103,14 @@ module _ {F : Type 0} (K : Operations F) where
   take_units n (suc m) i (suc k) le = ap (λ l. unit K n i ∷ l) (take_units n m (suc i) k (omega arith))
 
   -- the rows that are left of the first n unit vectors of m coordinates
-  narrowed : (n m : ℕ) (rs : List (List F)) → n ≤ m → All (Narrow n) rs → map (take n) (kernel_rows K rs (unit_rows K m 0 n)) ≡ kernel_rows K rs (unit_rows K n 0 n)
+  narrowed : (n m : ℕ) (rs : List (List F)) → n ≤ m → Each (Narrow n) rs → map (take n) (kernel_rows K rs (unit_rows K m 0 n)) ≡ kernel_rows K rs (unit_rows K n 0 n)
   narrowed n m rs le hr = narrow_kernel m n rs (unit_rows K m 0 n) hr (wide_units m 0 n) ∙ ap (kernel_rows K rs) (narrow_units n m 0 n le)
 
 length_window : {F : Type 0} (s : ℕ → F) (k n : ℕ) → length (window s k n) ≡ n
 length_window s k zero = refl
 length_window s k (suc n) = ap suc (length_window s (suc k) n)
 
-narrow_windows : {F : Type 0} (s : ℕ → F) (n k t : ℕ) → All (Narrow n) (windows s n k t)
+narrow_windows : {F : Type 0} (s : ℕ → F) (n k t : ℕ) → Each (Narrow n) (windows s n k t)
 narrow_windows s n k zero = tt
 narrow_windows s n k (suc t) = (omega (arith, length_window s k n), narrow_windows s n (suc k) t)
 
@@ -125,9 +125,9 @@ first_locates s t m count rows hs le e =
     let E = map (take n) (take count rows) in
     let same : E ≡ kernel_rows octets rs (unit_rows octets n 0 n) = ap (map (take n)) e ∙ left in
     let some : 0 < length (map (take (suc t)) (take count rows)) = subst (λ l. 0 < length l) (sym same) (octets_rows_left n rs hrs (omega (arith, length_windows s n 0 t))) in
-    go count (omega (arith, length-map (take count rows) (take (suc t)))) (subst (All (λ v. Solves octets n rs v × All Octet v)) (sym same) (octets_rows_solve n rs hrs))
+    go count (omega (arith, length-map (take count rows) (take (suc t)))) (subst (Each (λ v. Solves octets n rs v × Each Octet v)) (sym same) (octets_rows_solve n rs hrs))
   where
-    located : (v : List ℕ) → Solves octets (suc t) (windows s (suc t) 0 t) v → All Octet v → Locates s t v
+    located : (v : List ℕ) → Solves octets (suc t) (windows s (suc t) 0 t) v → Each Octet v → Locates s t v
     located v g hv = record {
       long = g.long;
       proper = hv;
@@ -135,12 +135,12 @@ first_locates s t m count rows hs le e =
       solves = λ k below. windows_slide octets s (suc t) t 0 v (omega (arith, g.long)) g.solves k (omega arith) (omega arith);
     }
 
-    first : (l : List (List ℕ)) → 0 < length l → All (λ v. Solves octets (suc t) (windows s (suc t) 0 t) v × All Octet v) (map (take (suc t)) l)
+    first : (l : List (List ℕ)) → 0 < length l → Each (λ v. Solves octets (suc t) (windows s (suc t) 0 t) v × Each Octet v) (map (take (suc t)) l)
         → Locates s t (take (suc t) (get_or l 0 []))
     first [] h good = absurd (omega arith)
     first (v ∷ l) h good = located (take (suc t) v) good.0.0 good.0.1
 
-    go : (c : ℕ) → 0 < length (take c rows) → All (λ v. Solves octets (suc t) (windows s (suc t) 0 t) v × All Octet v) (map (take (suc t)) (take c rows))
+    go : (c : ℕ) → 0 < length (take c rows) → Each (λ v. Solves octets (suc t) (windows s (suc t) 0 t) v × Each Octet v) (map (take (suc t)) (take c rows))
         → Locates s t (take (suc t) (get_or rows 0 []))
     go zero h good = absurd (omega arith)
     go (suc c) h good = subst (λ v. Locates s t (take (suc t) v)) (get_or-take (suc c) rows 0 [] (omega arith)) (first (take (suc c) rows) h good)

@@ -1,6 +1,6 @@
 -- A proposal that is accepted is the difference to the nearest codeword; and where one is within t places, the proposal is accepted.
 use Rattle.std.proofs.Common.{◌≡◌, ℕ, ◌≤◌, Bool, true, false, cond, eqb, List, length, is_ok, Some, None, Option, sym, refl, ap, ◌∙◌, subst, arith}
-use Rattle.std.specs.List.{AllByRecursion as All}
+use Rattle.std.specs.List.{AllByRecursion as Each}
 use Rattle.std.proofs.lemmas.Bool.{both_ways, eqb-false}
 use Rattle.elements.specs.Octets.{octets, Octet, power}
 use Rattle.polynomials.specs.Differences.{differing}
@@ -31,14 +31,14 @@ some_there false rest e = refl
 some_changes : (w : List ℕ) (cs : List Change) → sound (fault_of w cs) ≡ true → 1 ≤ length cs
 some_changes w cs e = let apart = eqb-false (length cs) 0 (some_there (eqb (length cs) 0) _ e) in omega arith
 
-module _ (t : ℕ) (w : List ℕ) (cs : List Change) (p : Proposed t w cs) (h : All Octet w) where
+module _ (t : ℕ) (w : List ℕ) (cs : List Change) (p : Proposed t w cs) (h : Each Octet w) where
   abbrev corrected : List ℕ
   corrected = correct_by octets power p.vector w
 
   abbrev f : ℕ → ℕ
   f = correction octets (syndrome octets power w) p.vector (roots octets power p.vector (length w))
 
-  corrected_octets : All Octet corrected
+  corrected_octets : Each Octet corrected
   corrected_octets = correct_octets p.vector w p.locates.proper h
 
   difference : Difference w corrected cs
@@ -51,7 +51,7 @@ module _ (t : ℕ) (w : List ℕ) (cs : List Change) (p : Proposed t w cs) (h : 
     long = sym (length_correct p.vector w);
     some = some_changes w cs ok;
     near = near;
-    adds = subst (All Adds) (sym p.changes) (repairs_add f (length w) w h corrected_octets);
+    adds = subst (Each Adds) (sym p.changes) (repairs_add f (length w) w h corrected_octets);
     difference = difference;
     ascending = subst Ascending (sym p.changes) (repairs_ascending f (length w) (length w) (omega arith));
   }

@@ -1,7 +1,7 @@
 -- The changes that corrections come to: what they make of the word, and that they are precisely the difference.
 use Rattle.std.proofs.Common.{◌≡◌, ℕ, zero, suc, ◌+◌, ◌-◌, ◌<◌, ◌≤◌, true, false, cond, not, ◌&&◌, ◌||◌, eqb, List, [], ◌∷◌, ◌++◌, length, set, sym, refl, ap, ◌∙◌, subst, ap₂, arith, length-append}
 use lib.Bits.{bit_xor, xor_assoc, xor_self, xor_zero_l, xor_zero_r, xor_lt}
-use Rattle.std.specs.List.{AllByRecursion as All}
+use Rattle.std.specs.List.{AllByRecursion as Each}
 use Rattle.std.proofs.lemmas.List.{append_assoc, get_or_at, set_at}
 use Rattle.std.proofs.lemmas.Bool.{eqb-true, ne_eqb, lt-ltb}
 use Rattle.elements.specs.Octets.{octets, Octet, power}
@@ -96,13 +96,13 @@ repairs_ascending f n (suc k) le =
 added_octet : (a o : ℕ) → Octet a → Octet (bit_xor a o) → Octet o
 added_octet a o ha hb = subst Octet (sym (xor_assoc a a o) ∙ ap (λ x. bit_xor x o) (xor_self a) ∙ xor_zero_l o) (xor_lt 8 a (bit_xor a o) ha hb)
 
-pub repairs_add : (f : ℕ → ℕ) (n : ℕ) (w : List ℕ) → All Octet w → All Octet (patch octets power f w) → All Adds (repairs f n (length w))
+pub repairs_add : (f : ℕ → ℕ) (n : ℕ) (w : List ℕ) → Each Octet w → Each Octet (patch octets power f w) → Each Adds (repairs f n (length w))
 repairs_add f n [] h g = tt
 repairs_add f n (a ∷ w) h g =
     let k = length w in
     let rest = repairs_add f n w h.1 g.1 in
     let here = added_octet a (f (power k)) h.0 g.0 in
-    elim (eqb (f (power k)) 0) as (λ t. All Adds (cond t (repairs f n k) (record { place = n - 1 - k; octet = f (power k) } ∷ repairs f n k))) [
+    elim (eqb (f (power k)) 0) as (λ t. Each Adds (cond t (repairs f n k) (record { place = n - 1 - k; octet = f (power k) } ∷ repairs f n k))) [
       | true ↦ rest
       | false ↦ (here, rest)
     ]

@@ -1,6 +1,6 @@
 -- What elimination leaves: a vector that locates the wrong places.
 use Rattle.std.specs.Prelude.{◌≡◌, ℕ, suc, ◌<◌, List, length, slice_index}
-use Rattle.std.specs.List.{AllByRecursion as All}
+use Rattle.std.specs.List.{AllByRecursion as Each}
 use Rattle.elements.specs.Octets.{octets, Octet}
 use Rattle.coding.specs.Sums.{Zero, slide}
 
@@ -11,6 +11,6 @@ entries xs i = slice_index xs i
 -- a vector of t + 1 octets, not all zero, that solves the t equations of the syndromes s
 pub record Locates (s : ℕ → ℕ) (t : ℕ) (v : List ℕ) : Type 0 where
   pub long : length v ≡ suc t
-  pub proper : All Octet v
-  pub some : ¬ (All (Zero octets) v)
+  pub proper : Each Octet v
+  pub some : ¬ (Each (Zero octets) v)
   pub solves : (k : ℕ) → k < t → slide octets v s k ≡ 0

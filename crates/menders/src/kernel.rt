@@ -1,7 +1,7 @@
 // The equations of the syndromes, solved by elimination over rows that start as the unit vectors.
 // The rows that are still in use stand first, and each has nine coordinates, of which t + 1 are in use.
 ghost use Rattle.std.specs.Prelude.{◌≡◌, ◌+◌, ◌-◌, ◌<◌, ◌≤◌, [], ◌++◌, length, take, drop, slice_index_or};
-ghost use Rattle.std.specs.List.{AllByRecursion as All};
+ghost use Rattle.std.specs.List.{AllByRecursion as Each};
 ghost use Rattle.elements.specs.Octets.{octets};
 ghost use Rattle.coding.specs.Sums.{Nonzero};
 ghost use Rattle.coding.specs.Kernel.{dot as dot_of, add_mul, clear_rows, eliminate_rows, kernel_rows};
@@ -49,7 +49,7 @@ fn plus_multiple(row: &[u8; 9], c: u8, by: &[u8; 9]) -> [u8; 9]
 fn first_unsolved(rows: &[[u8; 9]; 9], count: usize, equation: &[u8]) -> usize
     requires { (count ≤ 9) × (length equation.now ≤ 9) }
     ensures within { result ≤ count }
-    ensures solved { All (λ v. dot_of octets equation.now v ≡ 0) (take result rows.now) }
+    ensures solved { Each (λ v. dot_of octets equation.now v ≡ 0) (take result rows.now) }
     ensures unsolved { result < count → Nonzero octets (dot_of octets equation.now (slice_index_or rows.now result [])) }
 {
     for i in 0..count {

@@ -3,7 +3,7 @@ use Rattle.std.specs.Prelude.{◌≡◌, ℕ, ◌<◌, ◌≤◌, max, Bool, tru
 use Rattle.std.proofs.Math.Path.{refl}
 use Rattle.std.proofs.Common.{sym, ap, ap₂, subst, ◌∙◌, arith}
 use Rattle.std.proofs.Math.Logic.{⊎_elim}
-use Rattle.std.specs.List.{AllByRecursion as All}
+use Rattle.std.specs.List.{AllByRecursion as Each}
 use Rattle.std.proofs.lemmas.Bool.{both_ways, cases_lt, ne_eqb, le-ltb, ltb-false}
 use Rattle.elements.specs.Octets.{octets, Octet}
 use Rattle.polynomials.specs.Differences.{differing}
@@ -53,7 +53,7 @@ difference_accepted w c cs code d some few =
     rw (ne_eqb (length cs) 0 (λ z. omega arith), le-ltb 8 (length cs) (omega arith), d.places, d.apart, d.real, made) refl
 
 -- what is accepted is the difference from the one codeword within eight places
-pub accepted_difference : (w c : List ℕ) (cs : List Change) → All Octet w → All Adds cs → Passed w cs → Codeword c → length w ≡ length c → differing octets w c ≤ 8 → Difference w c cs
+pub accepted_difference : (w c : List ℕ) (cs : List Change) → Each Octet w → Each Adds cs → Passed w cs → Codeword c → length w ≡ length c → differing octets w c ≤ 8 → Difference w c cs
 accepted_difference w c cs h adds p code long near =
     let mended = passes (changed w cs) (changed_octets w cs h adds) p.coded in
     let same = one_within w (changed w cs) c mended code (sym (length_changed w cs)) long (omega (arith, changed_near w cs, p.few)) near in
@@ -68,11 +68,11 @@ module _ {A B : Type 0} (ra : A → ℕ) (qa : Rule A) (rb : B → ℕ) (qb : Ru
   layered_stays a a' b b' w r l =
       ap₂ max (ma.stays a w l.proposed a' l.asked) (stays_by (accepted w l.proposed) b b' w l.proposed r l.then)
 
-  few_by : (t : Bool) (a a' : A) (b b' : B) (w : List ℕ) (first : Option (List Change)) (cs : List Change) → qa a w first a' → Second qb t b w first (Some cs) b' → (1 ≤ length cs) × (length cs ≤ 16) × All Adds cs
+  few_by : (t : Bool) (a a' : A) (b b' : B) (w : List ℕ) (first : Option (List Change)) (cs : List Change) → qa a w first a' → Second qb t b w first (Some cs) b' → (1 ≤ length cs) × (length cs ≤ 16) × Each Adds cs
   few_by true a a' b b' w first cs asked s = ma.few a w cs a' (subst (λ (p : Option (List Change)). qa a w p a') (sym s.0) asked)
   few_by false a a' b b' w first cs asked s = mb.few b w cs b' s
 
-  pub layered_few : (a a' : A) (b b' : B) (w : List ℕ) (cs : List Change) → Layered qa qb a b w (Some cs) a' b' → (1 ≤ length cs) × (length cs ≤ 16) × All Adds cs
+  pub layered_few : (a a' : A) (b b' : B) (w : List ℕ) (cs : List Change) → Layered qa qb a b w (Some cs) a' b' → (1 ≤ length cs) × (length cs ≤ 16) × Each Adds cs
   layered_few a a' b b' w cs l = few_by (accepted w l.proposed) a a' b b' w l.proposed cs l.asked l.then
 
   pub layered_words : (a a' : A) (b b' : B) (w : List ℕ) (r : Option (List Change)) → Layered qa qb a b w r a' b' → word_long w ≡ false → r ≡ None
@@ -84,14 +84,14 @@ module _ {A B : Type 0} (ra : A → ℕ) (qa : Rule A) (rb : B → ℕ) (qb : Ru
   Finds w c r = (cs : List Change) × (r ≡ Some cs) × Difference w c cs
 
   -- the first one's proposal is accepted
-  finds_first : (a a' : A) (w c : List ℕ) (first r : Option (List Change)) → qa a w first a' → accepted w first ≡ true → r ≡ first → All Octet w → Codeword c → length w ≡ length c → differing octets w c ≤ 8 → Finds w c r
+  finds_first : (a a' : A) (w c : List ℕ) (first r : Option (List Change)) → qa a w first a' → accepted w first ≡ true → r ≡ first → Each Octet w → Codeword c → length w ≡ length c → differing octets w c ≤ 8 → Finds w c r
   unfolding Finds
   finds_first a a' w c None r asked e same h code long near = absurd (both_ways false refl e)
   finds_first a a' w c (Some cs) r asked e same h code long near =
       (cs, same, accepted_difference w c cs h (ma.few a w cs a' asked).2 (passed w cs e) code long near)
 
   -- it is not, so the difference lies beyond the first one's reach
-  beyond : (a a' : A) (w c : List ℕ) (first : Option (List Change)) → qa a w first a' → accepted w first ≡ false → All Octet w → Codeword c → length w ≡ length c
+  beyond : (a a' : A) (w c : List ℕ) (first : Option (List Change)) → qa a w first a' → accepted w first ≡ false → Each Octet w → Codeword c → length w ≡ length c
       → 1 ≤ differing octets w c → differing octets w c ≤ ra a → ⊥
   beyond a a' w c first asked e h code long some near =
       let f = ma.finds a w c first a' asked h code long some near in
@@ -99,7 +99,7 @@ module _ {A B : Type 0} (ra : A → ℕ) (qa : Rule A) (rb : B → ℕ) (qb : Ru
       both_ways (accepted w first) e (ap (accepted w) f.1 ∙ good)
 
   finds_by : (t : Bool) (a a' : A) (b b' : B) (w c : List ℕ) (first r : Option (List Change)) → qa a w first a' → accepted w first ≡ t → Second qb t b w first r b'
-      → All Octet w → Codeword c → length w ≡ length c → 1 ≤ differing octets w c → differing octets w c ≤ max (ra a) (rb b) → Finds w c r
+      → Each Octet w → Codeword c → length w ≡ length c → 1 ≤ differing octets w c → differing octets w c ≤ max (ra a) (rb b) → Finds w c r
   unfolding Finds
   finds_by true a a' b b' w c first r asked e s h code long some near = finds_first a a' w c first r asked e s.0 h code long (omega (arith, ma.small a, mb.small b))
   finds_by false a a' b b' w c first r asked e s h code long some near =
@@ -109,7 +109,7 @@ module _ {A B : Type 0} (ra : A → ℕ) (qa : Rule A) (rb : B → ℕ) (qb : Ru
       (cases_lt (ra a) (differing octets w c))
 
   pub layered_finds : (a a' : A) (b b' : B) (w c : List ℕ) (r : Option (List Change)) → Layered qa qb a b w r a' b'
-      → All Octet w → Codeword c → length w ≡ length c → 1 ≤ differing octets w c → differing octets w c ≤ max (ra a) (rb b)
+      → Each Octet w → Codeword c → length w ≡ length c → 1 ≤ differing octets w c → differing octets w c ≤ max (ra a) (rb b)
       → (cs : List Change) × (r ≡ Some cs) × Difference w c cs
   unfolding Finds
   layered_finds a a' b b' w c r l = finds_by (accepted w l.proposed) a a' b b' w c l.proposed r l.asked refl l.then

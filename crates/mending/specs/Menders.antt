@@ -1,6 +1,6 @@
 -- What a mender means: its reach, its rule, and the laws that it owes.
 use Rattle.std.specs.Prelude.{◌≡◌, ℕ, ◌-◌, ◌<◌, ◌≤◌, Bool, true, false, List, [], ◌∷◌, length, take, drop, replicate, Some, None, Option}
-use Rattle.std.specs.List.{AllByRecursion as All}
+use Rattle.std.specs.List.{AllByRecursion as Each}
 use Rattle.elements.specs.Octets.{octets, Octet}
 use Rattle.polynomials.specs.Differences.{differing}
 use Rattle.coding.specs.Codewords.{Codeword}
@@ -29,11 +29,11 @@ pub record Mends {M : Type 0} (reach : M → ℕ) (rule : Rule M) : Type 0 where
   pub small : (s : M) → reach s ≤ 8
   pub stays : (s : M) (w : List ℕ) (a : Option (List Change)) (t : M) → rule s w a t → reach t ≡ reach s
   -- a proposal has 1 to 16 changes, each of an octet
-  pub few : (s : M) (w : List ℕ) (cs : List Change) (t : M) → rule s w (Some cs) t → (1 ≤ length cs) × (length cs ≤ 16) × All Adds cs
+  pub few : (s : M) (w : List ℕ) (cs : List Change) (t : M) → rule s w (Some cs) t → (1 ≤ length cs) × (length cs ≤ 16) × Each Adds cs
   -- what has not a word's length gets no proposal
   pub words_only : (s : M) (w : List ℕ) (a : Option (List Change)) (t : M) → rule s w a t → word_long w ≡ false → a ≡ None
   -- a word that differs from a codeword in 1 to reach places gets precisely that difference
-  pub finds : (s : M) (w c : List ℕ) (a : Option (List Change)) (t : M) → rule s w a t → All Octet w → Codeword c → length w ≡ length c
+  pub finds : (s : M) (w c : List ℕ) (a : Option (List Change)) (t : M) → rule s w a t → Each Octet w → Codeword c → length w ≡ length c
       → 1 ≤ differing octets w c → differing octets w c ≤ reach s → (cs : List Change) × (a ≡ Some cs) × Difference w c cs
 
 -- the places stand in ascending order
@@ -50,7 +50,7 @@ pub record Found (t : ℕ) (w : List ℕ) (cs : List Change) : Type 0 where
   pub long : length w ≡ length codeword
   pub some : 1 ≤ length cs
   pub near : length cs ≤ t
-  pub adds : All Adds cs
+  pub adds : Each Adds cs
   pub difference : Difference w codeword cs
   pub ascending : Ascending cs
 

@@ -1,6 +1,6 @@
 -- What long division leaves is the remainder: quotient times divisor plus remainder is the row that was divided.
 use Rattle.std.proofs.Common.{◌≡◌, ℕ, zero, suc, ◌+◌, ◌-◌, ◌≤◌, Bool, true, false, cond, List, [], ◌∷◌, map, length, take, drop, replicate, Some, None, Option, sym, refl, ap, ◌∙◌, ap₂, subst₂, true≢false, le_of_suc-le-suc, not-suc-le-zero, arith, length-drop, length-take}
-use Rattle.std.specs.List.{AllByRecursion as All}
+use Rattle.std.specs.List.{AllByRecursion as Each}
 use Rattle.std.proofs.lemmas.List.{length-map}
 use Rattle.std.proofs.ByRecursion.{All-append, All-take, All-drop}
 use Rattle.elements.specs.Laws.{Operations, Laws}
@@ -43,51 +43,51 @@ module _ {E : Type 0} {ok : E → Type 0} {o : Operations E} (laws : Laws ok o) 
       r.add_comm m (o.add x (o.neg m)) hm (laws.closed.add x (o.neg m) hx hn)
       ∙ r.add_assoc x (o.neg m) m hx hn hm ∙ ap (o.add x) (r.add_comm (o.neg m) m hn hm ∙ r.add_neg m hm) ∙ r.add-zero x hx
 
-  pub less_ok : (f : E) (gs xs : List E) → ok f → All ok gs → All ok xs → All ok (less o f gs xs)
+  pub less_ok : (f : E) (gs xs : List E) → ok f → Each ok gs → Each ok xs → Each ok (less o f gs xs)
   less_ok f [] xs hf hg hx = hx
   less_ok f (g ∷ gs) [] hf hg hx = tt
   less_ok f (g ∷ gs) (x ∷ xs) hf hg hx =
       (laws.closed.add x (o.neg (o.mul f g)) hx.0 (laws.closed.neg (o.mul f g) (laws.closed.mul f g hf hg.0)), less_ok f gs xs hf hg.1 hx.1)
 
   -- f times the divisor, added again to what the step left
-  restored : (f : E) (gs xs : List E) → ok f → All ok gs → All ok xs → length gs ≤ length xs → onto o (map (o.mul f) gs) (less o f gs xs) ≡ xs
+  restored : (f : E) (gs xs : List E) → ok f → Each ok gs → Each ok xs → length gs ≤ length xs → onto o (map (o.mul f) gs) (less o f gs xs) ≡ xs
   restored f [] xs hf hg hx h = refl
   restored f (g ∷ gs) [] hf hg hx h = absurd (not-suc-le-zero h)
   restored f (g ∷ gs) (x ∷ xs) hf hg hx h =
       ap₂ (λ y ys. y ∷ ys) (back x (o.mul f g) hx.0 (laws.closed.mul f g hf hg.0)) (restored f gs xs hf hg.1 hx.1 (le_of_suc-le-suc h))
 
-  pub onto_ok : (xs ys : List E) → All ok xs → All ok ys → All ok (onto o xs ys)
+  pub onto_ok : (xs ys : List E) → Each ok xs → Each ok ys → Each ok (onto o xs ys)
   onto_ok [] ys hx hy = hy
   onto_ok (x ∷ xs) [] hx hy = hx
   onto_ok (x ∷ xs) (y ∷ ys) hx hy = (laws.closed.add x y hx.0 hy.0, onto_ok xs ys hx.1 hy.1)
 
-  multiples_ok : (f : E) (gs : List E) → ok f → All ok gs → All ok (map (o.mul f) gs)
+  multiples_ok : (f : E) (gs : List E) → ok f → Each ok gs → Each ok (map (o.mul f) gs)
   multiples_ok f [] hf hg = tt
   multiples_ok f (g ∷ gs) hf hg = (laws.closed.mul f g hf hg.0, multiples_ok f gs hf hg.1)
 
-  product_ok : (qs gs : List E) → All ok qs → All ok gs → All ok (poly_product o qs gs)
+  product_ok : (qs gs : List E) → Each ok qs → Each ok gs → Each ok (poly_product o qs gs)
   product_ok [] gs hq hg = tt
   product_ok (q ∷ qs) gs hq hg = onto_ok (map (o.mul q) gs) (o.zero ∷ poly_product o qs gs) (multiples_ok q gs hq.0 hg) (laws.closed.zero, product_ok qs gs hq.1 hg)
 
-  pub zeros_ok : (n : ℕ) → All ok (replicate n o.zero)
+  pub zeros_ok : (n : ℕ) → Each ok (replicate n o.zero)
   zeros_ok zero = tt
   zeros_ok (suc n) = (laws.closed.zero, zeros_ok n)
 
-  pub onto_assoc : (xs ys zs : List E) → All ok xs → All ok ys → All ok zs → onto o (onto o xs ys) zs ≡ onto o xs (onto o ys zs)
+  pub onto_assoc : (xs ys zs : List E) → Each ok xs → Each ok ys → Each ok zs → onto o (onto o xs ys) zs ≡ onto o xs (onto o ys zs)
   onto_assoc [] ys zs hx hy hz = refl
   onto_assoc (x ∷ xs) [] zs hx hy hz = refl
   onto_assoc (x ∷ xs) (y ∷ ys) [] hx hy hz = refl
   onto_assoc (x ∷ xs) (y ∷ ys) (z ∷ zs) hx hy hz =
       ap₂ (λ a l. a ∷ l) (laws.ring.add_assoc x y z hx.0 hy.0 hz.0) (onto_assoc xs ys zs hx.1 hy.1 hz.1)
 
-  zeros_onto : (xs : List E) → All ok xs → onto o (padded o (length xs) []) xs ≡ xs
+  zeros_onto : (xs : List E) → Each ok xs → onto o (padded o (length xs) []) xs ≡ xs
   zeros_onto [] h = refl
   zeros_onto (x ∷ xs) h = ap₂ (λ a l. a ∷ l) (zero_plus x h.0) (zeros_onto xs h.1)
 
-  padded_ok : (n : ℕ) (xs : List E) → All ok xs → All ok (padded o n xs)
+  padded_ok : (n : ℕ) (xs : List E) → Each ok xs → Each ok (padded o n xs)
   padded_ok n xs h = All-append ok (replicate n o.zero) xs (zeros_ok n) h
 
-  pub divided_ok : (u : E) (gs : List E) (n : ℕ) (xs : List E) → ok u → All ok gs → All ok xs → All ok (divided o u gs n xs)
+  pub divided_ok : (u : E) (gs : List E) (n : ℕ) (xs : List E) → ok u → Each ok gs → Each ok xs → Each ok (divided o u gs n xs)
   divided_ok u gs zero xs hu hg hx = hx
   divided_ok u gs (suc n) [] hu hg hx = tt
   divided_ok u gs (suc n) (x ∷ xs) hu hg hx =
@@ -101,9 +101,9 @@ module _ {E : Type 0} {ok : E → Type 0} {o : Operations E} (laws : Laws ok o) 
       ap (λ a. o.add a o.zero) (r.add-zero (o.mul (o.mul x u) g) hm) ∙ r.add-zero (o.mul (o.mul x u) g) hm
       ∙ r.mul_assoc x u g hx hu hg ∙ ap (o.mul x) (r.mul_comm u g hu hg ∙ e) ∙ r.mul-one x hx
 
-  module _ (u g : E) (gs : List E) (hu : ok u) (hg : ok g) (hgs : All ok gs) (unit : o.mul g u ≡ o.one) where
+  module _ (u g : E) (gs : List E) (hu : ok u) (hg : ok g) (hgs : Each ok gs) (unit : o.mul g u ≡ o.one) where
     -- quotient times divisor, with what is left added behind the quotient's places
-    whole : (n : ℕ) (xs : List E) → All ok xs → length xs ≡ n + length gs
+    whole : (n : ℕ) (xs : List E) → Each ok xs → length xs ≡ n + length gs
         → onto o (poly_product o (take n (divided o u gs n xs)) (g ∷ gs)) (padded o n (drop n (divided o u gs n xs))) ≡ xs
     whole zero xs hx e = refl
     whole (suc n) [] hx e = absurd (omega arith)
@@ -121,7 +121,7 @@ module _ {E : Type 0} {ok : E → Type 0} {o : Operations E} (laws : Laws ok o) 
         ∙ ap (onto o (map (o.mul f) gs)) (whole n ys hy long)
         ∙ restored f gs xs hf hgs hx.1 (omega arith))
 
-    split : (n : ℕ) (row : List E) → All ok row → (length row ≡ suc n + length gs)
+    split : (n : ℕ) (row : List E) → Each ok row → (length row ≡ suc n + length gs)
         → poly_sum o (poly_product o (take (suc n) row) (g ∷ gs)) (drop (suc n) row) ≡ onto o (poly_product o (take (suc n) row) (g ∷ gs)) (padded o (suc n) (drop (suc n) row))
     split n [] h e = absurd (omega arith)
     split n (q ∷ row) h e =
@@ -131,7 +131,7 @@ module _ {E : Type 0} {ok : E → Type 0} {o : Operations E} (laws : Laws ok o) 
         ap₂ (λ a b. onto o (padded o a (poly_product o (q ∷ take n row) (g ∷ gs))) (padded o b (drop n row))) less_none more
 
     -- the remainder, whichever number of steps there is room for
-    left : (n : ℕ) (xs : List E) → All ok xs → n ≡ length xs - length gs → Remainder o (g ∷ gs) xs (drop n (divided o u gs n xs))
+    left : (n : ℕ) (xs : List E) → Each ok xs → n ≡ length xs - length gs → Remainder o (g ∷ gs) xs (drop n (divided o u gs n xs))
     left zero xs hx e =
         let all : length xs - 0 ≡ length xs = omega arith in
         let none : 0 - length xs ≡ 0 = omega arith in
@@ -145,7 +145,7 @@ module _ {E : Type 0} {ok : E → Type 0} {o : Operations E} (laws : Laws ok o) 
           shorter = omega (arith, length-drop (suc n) (divided o u gs (suc n) xs), length_divided o u gs (suc n) xs);
         }
 
-  pub division_left : (d xs : List E) → All ok d → All ok xs → Left o d xs (division o d xs).0 (division o d xs).1
+  pub division_left : (d xs : List E) → Each ok d → Each ok xs → Left o d xs (division o d xs).0 (division o d xs).1
   division_left [] xs hd hx = tt
   division_left (g ∷ gs) xs hd hx = by (o.same g o.zero) refl
     where
@@ -158,5 +158,5 @@ module _ {E : Type 0} {ok : E → Type 0} {o : Operations E} (laws : Laws ok o) 
           let nonzero = λ (z : g ≡ o.zero). true≢false (sym (laws.compares.alike g o.zero z) ∙ e) in
           left (o.inv g) g gs (laws.inverses.inv_ok g hd.0) hd.0 hd.1 (laws.inverses.mul_inv g hd.0 nonzero) (length xs - length gs) xs hx refl
 
-  pub left_result : (d xs : List E) (r : Option ℕ) (ys : List E) → r ≡ (division o d xs).0 → ys ≡ (division o d xs).1 → All ok d → All ok xs → Left o d xs r ys
+  pub left_result : (d xs : List E) (r : Option ℕ) (ys : List E) → r ≡ (division o d xs).0 → ys ≡ (division o d xs).1 → Each ok d → Each ok xs → Left o d xs r ys
   left_result d xs r ys er ey hd hx = subst₂ (λ r ys. Left o d xs r ys) (sym er) (sym ey) (division_left d xs hd hx)

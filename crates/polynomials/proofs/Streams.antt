@@ -1,6 +1,6 @@
 -- A check taken in element by element is the remainder of the whole message.
 use Rattle.std.proofs.Common.{◌≡◌, ℕ, suc, ◌+◌, ◌-◌, ◌<◌, ◌≤◌, Bool, true, false, cond, List, [], ◌∷◌, ◌++◌, length, get_or, take, drop, set, replicate, Some, None, Option, sym, refl, ap, ◌∙◌, subst, ap₂, le_of_suc-le-suc, not-suc-le-zero, arith}
-use Rattle.std.specs.List.{AllByRecursion as All}
+use Rattle.std.specs.List.{AllByRecursion as Each}
 use Rattle.std.proofs.lemmas.List.{take_all, take_more, take_more_set, set_split, drop_all, length_push, length-append, length-replicate, length-drop}
 use Rattle.std.proofs.ByRecursion.{All-append, All-push, All-drop}
 use Rattle.elements.specs.Laws.{Operations, Laws}
@@ -31,7 +31,7 @@ laid_is o (b ∷ bs) (r ∷ rs) x a y z some long same ea ey ez =
 
 module _ {E : Type 0} {ok : E → Type 0} {o : Operations E} (laws : Laws ok o) where
   -- a zero more at the end of what is added changes nothing
-  onto_push : (rs ys : List E) → All ok ys → length rs < length ys → onto o rs ys ≡ onto o (rs ++ (o.zero ∷ [])) ys
+  onto_push : (rs ys : List E) → Each ok ys → length rs < length ys → onto o rs ys ≡ onto o (rs ++ (o.zero ∷ [])) ys
   onto_push [] [] hy h = absurd (not-suc-le-zero h)
   onto_push [] (y ∷ ys) hy h = ap (λ a. a ∷ ys) (sym (zero_plus laws y hy.0))
   onto_push (r ∷ rs) [] hy h = absurd (not-suc-le-zero h)
@@ -43,7 +43,7 @@ module _ {E : Type 0} {ok : E → Type 0} {o : Operations E} (laws : Laws ok o) 
       r.add_assoc a y m ha hy hm ∙ ap (o.add a) (r.add_comm y m hy hm) ∙ sym (r.add_assoc a m y ha hm hy)
 
   -- a step takes from what is added, as much as from the sum
-  less_onto : (f : E) (gs zs ys : List E) → ok f → All ok gs → All ok zs → All ok ys → length gs ≤ length zs → length zs ≤ length ys
+  less_onto : (f : E) (gs zs ys : List E) → ok f → Each ok gs → Each ok zs → Each ok ys → length gs ≤ length zs → length zs ≤ length ys
       → less o f gs (onto o zs ys) ≡ onto o (less o f gs zs) ys
   less_onto f [] zs ys hf hg ha hy h k = refl
   less_onto f (g ∷ gs) [] ys hf hg ha hy h k = absurd (not-suc-le-zero h)
@@ -67,7 +67,7 @@ module _ {E : Type 0} {ok : E → Type 0} {o : Operations E} (laws : Laws ok o) 
       ]
 
   -- the first of the steps, and those that are left
-  step_by : (t : Bool) (u a : E) (gs rs ys : List E) (n : ℕ) → ok u → ok a → All ok gs → All ok rs → All ok ys → length gs ≡ suc (length rs) → length gs ≤ length ys
+  step_by : (t : Bool) (u a : E) (gs rs ys : List E) (n : ℕ) → ok u → ok a → Each ok gs → Each ok rs → Each ok ys → length gs ≡ suc (length rs) → length gs ≤ length ys
       → drop (suc n) (left_by t u gs (suc n) (a ∷ onto o rs ys)) ≡ drop n (left_by t u gs n (onto o (drop 1 (left_by t u gs 1 (a ∷ (rs ++ (o.zero ∷ []))))) ys))
   step_by true u a gs rs ys n hu ha hg hr hy long room = ap (drop n) (onto_push rs ys hy (omega arith))
   step_by false u a gs rs ys n hu ha hg hr hy long room =
@@ -100,7 +100,7 @@ module _ {E : Type 0} {ok : E → Type 0} {o : Operations E} (laws : Laws ok o) 
       (omega (arith, length_onto o reg (msg ++ zeros (length gs)) fits, length-append msg (zeros (length gs)), length-replicate (length gs) o.zero)))
 
   -- one element more of the message
-  pub check_step : (g : E) (gs reg msg : List E) (x : E) → ok g → All ok gs → All ok reg → ok x → All ok msg → 0 < length reg → length reg ≡ length gs
+  pub check_step : (g : E) (gs reg msg : List E) (x : E) → ok g → Each ok gs → Each ok reg → ok x → Each ok msg → 0 < length reg → length reg ≡ length gs
       → check o (g ∷ gs) (stepped o (g ∷ gs) reg x) msg ≡ check o (g ∷ gs) reg (x ∷ msg)
   check_step g gs [] msg x hg hgs hr hx hm some long = absurd (not-suc-le-zero some)
   check_step g gs (r ∷ rs) msg x hg hgs hr hx hm some long =
@@ -113,19 +113,19 @@ module _ {E : Type 0} {ok : E → Type 0} {o : Operations E} (laws : Laws ok o) 
       (All-append ok msg (zeros (length gs)) hm (zeros_ok laws (length gs))) (sym long) (omega (arith, length-append msg (zeros (length gs)), length-replicate (length gs) o.zero)))
       ∙ sym (check_is g gs (r ∷ rs) (x ∷ msg) long)
 
-  left_ok : (t : Bool) (u : E) (gs : List E) (n : ℕ) (xs : List E) → ok u → All ok gs → All ok xs → All ok (left_by t u gs n xs)
+  left_ok : (t : Bool) (u : E) (gs : List E) (n : ℕ) (xs : List E) → ok u → Each ok gs → Each ok xs → Each ok (left_by t u gs n xs)
   left_ok true u gs n xs hu hg hx = hx
   left_ok false u gs n xs hu hg hx = divided_ok laws u gs n xs hu hg hx
 
-  pub stepped_ok : (g : E) (gs reg : List E) (x : E) → ok g → All ok gs → All ok reg → ok x → length reg ≡ length gs → All ok (stepped o (g ∷ gs) reg x)
-  stepped_ok g gs [] x hg hgs hr hx long = All-drop ok 1 _ (subst (All ok) (sym (division_row g gs [] _ refl)) (left_ok (o.same g o.zero) (o.inv g) gs _ [] (laws.inverses.inv_ok g hg) hgs tt))
+  pub stepped_ok : (g : E) (gs reg : List E) (x : E) → ok g → Each ok gs → Each ok reg → ok x → length reg ≡ length gs → Each ok (stepped o (g ∷ gs) reg x)
+  stepped_ok g gs [] x hg hgs hr hx long = All-drop ok 1 _ (subst (Each ok) (sym (division_row g gs [] _ refl)) (left_ok (o.same g o.zero) (o.inv g) gs _ [] (laws.inverses.inv_ok g hg) hgs tt))
   stepped_ok g gs (r ∷ rs) x hg hgs hr hx long =
-      subst (All ok) (sym (stepped_left g gs rs r x (sym long)))
+      subst (Each ok) (sym (stepped_left g gs rs r x (sym long)))
       (All-drop ok 1 _ (left_ok (o.same g o.zero) (o.inv g) gs 1 _ (laws.inverses.inv_ok g hg) hgs
       (laws.closed.add r x hr.0 hx, All-push ok rs o.zero hr.1 laws.closed.zero)))
 
   -- the check of no elements is what the register holds
-  pub check_none : (g : E) (gs reg : List E) → All ok reg → length reg ≡ length gs → check o (g ∷ gs) reg [] ≡ reg
+  pub check_none : (g : E) (gs reg : List E) → Each ok reg → length reg ≡ length gs → check o (g ∷ gs) reg [] ≡ reg
   check_none g gs reg hr long =
       check_is g gs reg [] long ∙ none (o.same g o.zero) ∙ ap (λ n. onto o reg (zeros n)) (sym long) ∙ onto_zeros reg hr
     where
@@ -133,24 +133,24 @@ module _ {E : Type 0} {ok : E → Type 0} {o : Operations E} (laws : Laws ok o) 
       none true = refl
       none false = refl
 
-      onto_zeros : (xs : List E) → All ok xs → onto o xs (zeros (length xs)) ≡ xs
+      onto_zeros : (xs : List E) → Each ok xs → onto o xs (zeros (length xs)) ≡ xs
       onto_zeros [] h = refl
       onto_zeros (x ∷ xs) h = ap₂ (λ a l. a ∷ l) (laws.ring.add-zero x h.0) (onto_zeros xs h.1)
 
   -- the same of a generator that is not taken apart
-  pub check_more : (gen reg msg : List E) (x : E) → 0 < length reg → length gen ≡ length reg + 1 → All ok gen → All ok reg → ok x → All ok msg
-      → (check o gen (stepped o gen reg x) msg ≡ check o gen reg (x ∷ msg)) × All ok (stepped o gen reg x)
+  pub check_more : (gen reg msg : List E) (x : E) → 0 < length reg → length gen ≡ length reg + 1 → Each ok gen → Each ok reg → ok x → Each ok msg
+      → (check o gen (stepped o gen reg x) msg ≡ check o gen reg (x ∷ msg)) × Each ok (stepped o gen reg x)
   check_more [] reg msg x some long hg hr hx hm = absurd (omega arith)
   check_more (g ∷ gs) reg msg x some long hg hr hx hm =
       let same : length reg ≡ length gs = omega arith in
       (check_step g gs reg msg x hg.0 hg.1 hr hx hm some same, stepped_ok g gs reg x hg.0 hg.1 hr hx same)
 
-  pub check_done : (gen reg : List E) → length gen ≡ length reg + 1 → All ok reg → check o gen reg [] ≡ reg
+  pub check_done : (gen reg : List E) → length gen ≡ length reg + 1 → Each ok reg → check o gen reg [] ≡ reg
   check_done [] reg long hr = absurd (omega arith)
   check_done (g ∷ gs) reg long hr = check_none g gs reg hr (omega arith)
 
   -- a check keeps the relation, and has as many elements as the preset
-  check_left : (g : E) (gs preset msg : List E) → length preset ≡ length gs → ok g → All ok gs → All ok preset → All ok msg → (g ≡ o.zero → ⊥)
+  check_left : (g : E) (gs preset msg : List E) → length preset ≡ length gs → ok g → Each ok gs → Each ok preset → Each ok msg → (g ≡ o.zero → ⊥)
       → Checks o (g ∷ gs) preset msg (check o (g ∷ gs) preset msg)
   check_left g gs preset msg long hg hgs hp hm nonzero =
       let xs = dividend o (length (g ∷ gs) - 1) preset msg in
@@ -167,7 +167,7 @@ module _ {E : Type 0} {ok : E → Type 0} {o : Operations E} (laws : Laws ok o) 
       not_same : (a : E) → (a ≡ o.zero → ⊥) → o.same a o.zero ≡ false
       not_same a n = (elim (o.same a o.zero) as (λ t. o.same a o.zero ≡ t → t ≡ false) [ true ↦ λ e. absurd (n (laws.compares.equal a o.zero e)) | false ↦ λ e. refl ]) refl
 
-  pub check_remains : (d : ℕ) (gen preset msg : List E) → Generates ok o d gen preset → All ok msg → Checks o gen preset msg (check o gen preset msg)
+  pub check_remains : (d : ℕ) (gen preset msg : List E) → Generates ok o d gen preset → Each ok msg → Checks o gen preset msg (check o gen preset msg)
   check_remains d [] preset msg from hm = absurd (omega (arith, from.long))
   check_remains d (g ∷ gs) preset msg from hm =
       check_left g gs preset msg (omega (arith, from.long, from.preset_long)) from.proper.0 from.proper.1 from.preset_proper hm

@@ -1,6 +1,6 @@
 -- The check of a message: what a division by a generator leaves.
 use Rattle.std.specs.Prelude.{◌≡◌, ℕ, ◌+◌, ◌-◌, ◌^◌, ◌<◌, Bool, ◌&&◌, List, [], ◌∷◌, ◌++◌, length, drop, replicate, ◌==◌, slice_index_or}
-use Rattle.std.specs.List.{AllByRecursion as All}
+use Rattle.std.specs.List.{AllByRecursion as Each}
 use Rattle.elements.specs.Laws.{Operations}
 use Rattle.polynomials.specs.Polynomials.{onto, Remainder}
 use Rattle.polynomials.specs.Division.{division}
@@ -12,8 +12,8 @@ pub record Generates {E : Type 0} (ok : E → Type 0) (o : Operations E) (d : �
   pub long : length generator ≡ d + 1
   pub leads : slice_index_or generator 0 o.zero ≡ o.one
   pub preset_long : length preset ≡ d
-  pub proper : All ok generator
-  pub preset_proper : All ok preset
+  pub proper : Each ok generator
+  pub preset_proper : Each ok preset
 
 -- whether the buffers have the lengths that a check of d elements wants: d for the check, and d + 1 for each row of room
 abbrev pub room : {E : Type 0} → ℕ → List E → List E → List E → Bool

@@ -1,6 +1,6 @@
 // Checks: what a division by a generator leaves of a message.
 ghost use Rattle.std.specs.Prelude.{◌≡◌, ℕ, ◌+◌, ◌<◌, ◌≤◌, List, ◌++◌, length, replicate, if◌then◌else◌, Some, None, slice_index_or};
-ghost use Rattle.std.specs.List.{AllByRecursion as All};
+ghost use Rattle.std.specs.List.{AllByRecursion as Each};
 ghost use Rattle.polynomials.specs.Checks.{check, Checks, Generates, laid_out, stepped, room};
 
 use crate::polynomial::remainder;

@@ -1,6 +1,6 @@
 // Division of polynomials, each a row of coefficients, the highest first.
 ghost use Rattle.std.specs.Prelude.{◌≡◌, ◌≤◌, length};
-ghost use Rattle.std.specs.List.{AllByRecursion as All};
+ghost use Rattle.std.specs.List.{AllByRecursion as Each};
 ghost use Rattle.polynomials.specs.Division.{less, division, Left};
 
 use elements::Element;
@@ -20,7 +20,7 @@ fn take_multiple<E: Element>(row: &mut [E], f: E, by: &[E])
 pub fn remainder<E: Element>(row: &mut [E], divisor: &[E]) -> Option<usize>
     ensures answer { result ≡ (division E.ops divisor.now row.old).0 }
     ensures row { row.new ≡ (division E.ops divisor.now row.old).1 }
-    ensures exact { All E.ok divisor.now → All E.ok row.old → Left E.ops divisor.now row.old result row.new }
+    ensures exact { Each E.ok divisor.now → Each E.ok row.old → Left E.ops divisor.now row.old result row.new }
 {
     let [lead, rest @ ..] = divisor else {
         return None;

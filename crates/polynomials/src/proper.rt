@@ -1,11 +1,11 @@
 // Rows of proper values.
-ghost use Rattle.std.specs.List.{AllByRecursion as All};
+ghost use Rattle.std.specs.List.{AllByRecursion as Each};
 
 use elements::Element;
 
 // Does nothing: each value of the row is proper.
 pub(crate) fn all_proper<E: Element>(row: &[E])
-    ensures { All E.ok row.now }
+    ensures { Each E.ok row.now }
 {
     for x in row {
         x.proper();

@@ -1,6 +1,6 @@
 // The body words: read, mended, and their messages put together.
 ghost use Rattle.std.specs.Prelude.{◌≡◌, ◌<◌, ◌≤◌, length as octets, take};
-ghost use Rattle.std.specs.List.{AllByRecursion as All};
+ghost use Rattle.std.specs.List.{AllByRecursion as Each};
 ghost use Rattle.format.specs.Payload.{word_count};
 ghost use Rattle.format.specs.Reading.{word_read};
 ghost use Rattle.slicer.specs.Slices.{Chip};
@@ -47,7 +47,7 @@ fn read_word<M: Mender>(
     requires inside { k < word_count length }
     requires short { length ≤ 2048 }
     requires roomy { 2048 ≤ octets body.old }
-    requires chips { All Chip window.chips.now }
+    requires chips { Each Chip window.chips.now }
     ensures { WordAs M.Mender.rule mender.old (word_read mode length window.entry.chips.now k) k result body.old body.new mender.new }
 {
     let mut room = [0u8; 240];
@@ -73,7 +73,7 @@ pub(crate) fn read_body<M: Mender>(
 ) -> Result<usize, PayloadFault>
     requires short { length ≤ 2048 }
     requires roomy { 2048 ≤ octets body.old }
-    requires chips { All Chip window.chips.now }
+    requires chips { Each Chip window.chips.now }
     ensures { BodyAs M.Mender.rule mender.old (words_read mode length window.entry.chips.now) result body.old body.new mender.new }
 {
     let mut total = 0;

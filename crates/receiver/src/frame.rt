@@ -1,6 +1,6 @@
 // A read: the door, and the frame behind it.
 ghost use Rattle.std.specs.Prelude.{◌≡◌, ◌≤◌, ◌++◌, length as octets, take, drop, replicate};
-ghost use Rattle.std.specs.List.{AllByRecursion as All};
+ghost use Rattle.std.specs.List.{AllByRecursion as Each};
 ghost use Rattle.format.specs.Sequences.{mixed, after, scrambler as scrambler_of};
 ghost use Rattle.slicer.specs.Slices.{Chip};
 ghost use Rattle.account.specs.Answers.{PayloadAs, Passed, Blank, FrameAs, Received};
@@ -43,7 +43,7 @@ fn read_payload<M: Mender>(
 ) -> Result<usize, PayloadFault>
     requires short { length ≤ 2048 }
     requires roomy { 2048 ≤ octets body.old }
-    requires chips { All Chip window.chips.now }
+    requires chips { Each Chip window.chips.now }
     ensures { PayloadAs M.Mender.rule mender.old mode seed length window.entry.chips.now result body.old body.new mender.new }
 {
     if window.len() < frame_length(mode, length) {

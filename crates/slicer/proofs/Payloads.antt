@@ -2,7 +2,7 @@
 use Rattle.std.proofs.Common.{◌≡◌, ℕ, zero, suc, ◌+◌, ◌-◌, ◌*◌, ◌/◌, ◌%◌, ◌^◌, ◌<◌, ◌≤◌, Bool, true, false, cond, leb, List, [], ◌∷◌, ◌++◌, map, length, get_or, take, drop, set, replicate, Some, None, sym, refl, ap, ◌∙◌, ap₂, mul-add, arith, length-drop, length-take}
 use lib.Bits.{bit_and, bit_or}
 use lib.ListN.{length-map}
-use Rattle.std.specs.List.{range_with_len, AllByRecursion as All}
+use Rattle.std.specs.List.{range_with_len, AllByRecursion as Each}
 use Rattle.std.proofs.lemmas.Nat.{and_mask, mul-le}
 use Rattle.std.proofs.lemmas.List.{append_assoc, set_at, take-map, drop-map}
 use Rattle.std.proofs.lemmas.List.FromFn.{length-map-range_with_len, map-range_with_len_more}
@@ -18,21 +18,21 @@ use Rattle.slicer.specs.Slices.{Chip, masked}
 
 -- ---- masks
 
-pub masked_same : (w : List ℕ) → All Chip w → masked w ≡ w
+pub masked_same : (w : List ℕ) → Each Chip w → masked w ≡ w
 unfolding masked
 masked_same [] good = refl
 masked_same (c ∷ cs) good = ap₂ (λ a l. a ∷ l) (omega (arith, good.0)) (masked_same cs good.1)
 
 -- a window with no bad chip holds chips alone
-good_from : (i : ℕ) (w : List ℕ) → bad_from i w ≡ None → All Chip w
+good_from : (i : ℕ) (w : List ℕ) → bad_from i w ≡ None → Each Chip w
 good_from i [] e = tt
 good_from i (c ∷ cs) e =
-    (elim (leb c 1) as (λ t. leb c 1 ≡ t → cond t (bad_from (i + 1) cs) (Some i) ≡ None → All Chip (c ∷ cs)) [
+    (elim (leb c 1) as (λ t. leb c 1 ≡ t → cond t (bad_from (i + 1) cs) (Some i) ≡ None → Each Chip (c ∷ cs)) [
       | true ↦ λ t e. (omega (arith, leb-true c 1 t), good_from (i + 1) cs e)
       | false ↦ λ t e. let z : ◌≡◌ {A = ℕ} 0 1 = cc in absurd (omega arith)
     ]) refl e
 
-pub good_chips : (w : List ℕ) → first_bad w ≡ None → All Chip w
+pub good_chips : (w : List ℕ) → first_bad w ≡ None → Each Chip w
 good_chips w e = good_from 0 w e
 
 get_or_masked : (w : List ℕ) (i : ℕ) → get_or (masked w) i 0 ≡ get_or w i 0 % 2

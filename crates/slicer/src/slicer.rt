@@ -1,6 +1,6 @@
 // The slicer: turns the chips of parts into octets.
 ghost use Rattle.std.specs.Prelude.{◌≡◌, ◌-◌, ◌^◌, ◌<◌, ◌≤◌, ◌++◌, drop, replicate};
-ghost use Rattle.std.specs.List.{AllByRecursion as All};
+ghost use Rattle.std.specs.List.{AllByRecursion as Each};
 ghost use Rattle.format.specs.Sequences.{value, after};
 ghost use Rattle.format.specs.Reading.{despread, payload_bit, payload_octet, word_length, word_read};
 ghost use Rattle.slicer.specs.Slices.{sum_from, bits_from, Chip, masked};
@@ -84,7 +84,7 @@ pub fn body_word(
 ) -> usize
     ensures size { result ≡ word_length length number }
     ensures out { out.new ≡ word_read mode length (masked window.entry.chips.now) number ++ replicate (240 - word_length length number) 0 }
-    ensures read { All Chip window.entry.chips.now → out.new ≡ word_read mode length window.entry.chips.now number ++ replicate (240 - word_length length number) 0 }
+    ensures read { Each Chip window.entry.chips.now → out.new ≡ word_read mode length window.entry.chips.now number ++ replicate (240 - word_length length number) 0 }
 {
     let size = (length as usize)
         .saturating_sub(224 * number as usize)

@@ -4,14 +4,14 @@
 mod chips;
 mod coder;
 mod count;
-mod frames;
-mod mending;
+mod framing;
+mod mend;
 
 use chips::chips;
 use coder::coder;
 use count::Count;
-use frames::{edges, round_trips};
-use mending::{causes, menders_table};
+use framing::{edges, round_trips};
+use mend::{causes, menders_table};
 
 fn show(rt: &impl Print, kind: &str, count: Count) -> anyhow::Result<()> {
     println!(rt; "{kind}: {} right, {} wrong", count.right, count.wrong)?;

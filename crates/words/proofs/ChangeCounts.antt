@@ -1,7 +1,7 @@
 -- How far changes take a word: changes that are the difference number the places in which word and codeword differ.
 use Rattle.std.proofs.Common.{◌≡◌, ℕ, zero, suc, ◌+◌, ◌<◌, ◌≤◌, true, false, cond, not, eqb, ltb, List, [], ◌∷◌, length, get_or, set, sym, refl, ap, ◌∙◌, subst, ⊎_elim, arith}
 use lib.Bits.{bit_xor, xor_assoc, xor_self, xor_zero_l, xor_lt}
-use Rattle.std.specs.List.{AllByRecursion as All}
+use Rattle.std.specs.List.{AllByRecursion as Each}
 use Rattle.std.proofs.lemmas.List.{length-set, get_or-set_same, get_or-set_other, set_past}
 use Rattle.std.proofs.ByRecursion.{All-set, All-get_or}
 use Rattle.std.proofs.lemmas.Bool.{and_parts, or_parts, not-true, eqb-false, ne_eqb, eq-eqb, ltb-true, cases_lt}
@@ -73,13 +73,13 @@ pub difference_count : (w c : List ℕ) (cs : List Change) → Difference w c cs
 difference_count w c cs d = ap (differing octets w) (sym d.turns) ∙ changed_count w cs d.places d.apart d.real
 
 -- octets stay octets
-pub changed_octets : (w : List ℕ) (cs : List Change) → All Octet w → All Adds cs → All Octet (changed w cs)
+pub changed_octets : (w : List ℕ) (cs : List Change) → Each Octet w → Each Adds cs → Each Octet (changed w cs)
 unfolding changed
 changed_octets w [] h a = h
 changed_octets w (c ∷ cs) h a =
     changed_octets (set w c.place (bit_xor (get_or w c.place 0) c.octet)) cs
     (⊎_elim
     (λ (inner : c.place < length w). All-set Octet w c.place (bit_xor (get_or w c.place 0) c.octet) (xor_lt 8 (get_or w c.place 0) c.octet (All-get_or Octet w c.place 0 inner h) a.0) h)
-    (λ (past : length w ≤ c.place). subst (All Octet) (sym (set_past w c.place _ past)) h)
+    (λ (past : length w ≤ c.place). subst (Each Octet) (sym (set_past w c.place _ past)) h)
     (cases_lt c.place (length w)))
     a.1

@@ -1,6 +1,6 @@
 -- The codeword test answers true just for codewords.
 use Rattle.std.proofs.Common.{◌≡◌, ℕ, ◌+◌, ◌-◌, ◌≤◌, true, cond, eqb, leb, List, [], ◌∷◌, length, take, drop, sym, refl, ap, ◌∙◌, arith, length-drop}
-use Rattle.std.specs.List.{AllByRecursion as All}
+use Rattle.std.specs.List.{AllByRecursion as Each}
 use Rattle.std.proofs.lemmas.Bool.{and_parts, and_from, eqb-true, eq-eqb, leb-true, le-leb}
 use Rattle.elements.specs.Octets.{octets, Octet}
 use Rattle.polynomials.specs.Differences.{differing}
@@ -18,7 +18,7 @@ differing_same (x ∷ w) = ap (λ t. cond t 0 1 + differing octets w w) (eq-eqb 
 pub word_length : (w : List ℕ) → word_long w ≡ true → (17 ≤ length w) × (length w ≤ 240)
 word_length w e = let p = and_parts (leb 17 (length w)) (leb (length w) 240) e in (leb-true 17 (length w) p.0, leb-true (length w) 240 p.1)
 
-pub passes : (w : List ℕ) → All Octet w → is_codeword w ≡ true → Codeword w
+pub passes : (w : List ℕ) → Each Octet w → is_codeword w ≡ true → Codeword w
 passes w h e =
     let k = length w - 16 in
     let p = and_parts (word_long w) (eqb (differing octets (parity (take k w)) (drop k w)) 0) e in

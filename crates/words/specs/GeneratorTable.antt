@@ -1,7 +1,7 @@
 -- The generator's coefficients, computed from its roots.
 use Rattle.std.specs.Prelude.{◌≡◌, ℕ, ◌≤◌, List, [], ◌∷◌, replicate, slice_index, refl}
 use Rattle.std.proofs.Common.{sym, ap, subst, ◌∙◌, lit<}
-use Rattle.std.specs.List.{AllByRecursion as All}
+use Rattle.std.specs.List.{AllByRecursion as Each}
 use Rattle.std.proofs.lemmas.List.{get_or_past}
 use Rattle.elements.specs.Octets.{Octet, octets, product, times, double, power}
 use Rattle.polynomials.specs.Checks.{Generates}
@@ -14,11 +14,11 @@ pub generator_is : coefficients ≡ generator
 unfolding generator roots_up_to product times double power
 generator_is = refl
 
-coefficients_proper : All Octet coefficients
+coefficients_proper : Each Octet coefficients
 coefficients_proper =
     (lit< tt, (lit< tt, (lit< tt, (lit< tt, (lit< tt, (lit< tt, (lit< tt, (lit< tt, (lit< tt, (lit< tt, (lit< tt, (lit< tt, (lit< tt, (lit< tt, (lit< tt, (lit< tt, (lit< tt, tt)))))))))))))))))
 
-zeros_proper : All Octet (replicate 16 0)
+zeros_proper : Each Octet (replicate 16 0)
 zeros_proper =
     (lit< tt, (lit< tt, (lit< tt, (lit< tt, (lit< tt, (lit< tt, (lit< tt, (lit< tt, (lit< tt, (lit< tt, (lit< tt, (lit< tt, (lit< tt, (lit< tt, (lit< tt, (lit< tt, tt))))))))))))))))
 

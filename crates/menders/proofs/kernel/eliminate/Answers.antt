@@ -1,5 +1,5 @@
 use Rattle.std.proofs.Common.{◌≡◌, take, sym, subst, arith}
-use Rattle.std.specs.List.{AllByRecursion as All}
+use Rattle.std.specs.List.{AllByRecursion as Each}
 use Rattle.elements.specs.Octets.{octets}
 use Rattle.coding.specs.Kernel.{dot}
 use Rattle.coding.proofs.OctetDecoder.{octets_eliminate_none}
@@ -13,7 +13,7 @@ returns-then-p-count c =
     record {
       fewer = omega arith;
       rows = sym (octets_eliminate_none r (take c.args.count rows)
-          (subst (λ n. All (λ v. dot octets r v ≡ 0) (take n rows)) c.if-p-count.true c.first_unsolved-p.ensures.solved));
+          (subst (λ n. Each (λ v. dot octets r v ≡ 0) (take n rows)) c.if-p-count.true c.first_unsolved-p.ensures.solved));
     }
 
 pub returns : goal.returns

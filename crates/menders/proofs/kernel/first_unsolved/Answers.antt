@@ -1,5 +1,5 @@
 use Rattle.std.proofs.Common.{◌≡◌, [], take, sym, ◌∙◌, subst, arith}
-use Rattle.std.specs.List.{AllByRecursion as All}
+use Rattle.std.specs.List.{AllByRecursion as Each}
 use Rattle.std.proofs.ByRecursion.{All-more}
 use Rattle.elements.specs.Octets.{octets}
 use Rattle.coding.specs.Kernel.{dot}
@@ -15,6 +15,6 @@ returns c =
     let all : c.loop-i.i ≡ c.args.count = omega arith in
     record {
       within = omega arith;
-      solved = subst (λ n. All (λ v. dot octets c.args.equation.now v ≡ 0) (take n c.args.rows.now)) all c.loop-i.invariant;
+      solved = subst (λ n. Each (λ v. dot octets c.args.equation.now v ≡ 0) (take n c.args.rows.now)) all c.loop-i.invariant;
       unsolved = λ h. absurd (omega arith);
     }

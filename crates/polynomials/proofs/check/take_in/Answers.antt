@@ -1,5 +1,5 @@
 use Rattle.std.proofs.Common.{◌≡◌, ◌+◌, ◌<◌, length, drop, sym, ap, ◌∙◌, subst, arith}
-use Rattle.std.specs.List.{AllByRecursion as All}
+use Rattle.std.specs.List.{AllByRecursion as Each}
 use Rattle.std.proofs.lemmas.List.{drop_all}
 use Rattle.std.proofs.ByRecursion.{All-drop, All-get_or}
 use Rattle.polynomials.specs.Checks.{check, stepped}
@@ -10,7 +10,7 @@ use Rattle.polynomials.proofs.check.take_in.Goals as goal
 pub loop-x-init : goal.loop-x-init
 loop-x-init g c =
     let o = g.C.Element.Element.ops in
-    (ap (λ l. check o g.C.Check.generator l c.args.message.now) c.requires.0, subst (All g.C.Element.Element.ok) (sym c.requires.0) g.met.C.Check.generates.preset_proper)
+    (ap (λ l. check o g.C.Check.generator l c.args.message.now) c.requires.0, subst (Each g.C.Element.Element.ok) (sym c.requires.0) g.met.C.Check.generates.preset_proper)
 
 pub loop-x-preserved : goal.loop-x-preserved
 loop-x-preserved g c =
@@ -29,7 +29,7 @@ loop-x-preserved g c =
     let more = check_more g.met.C.Element.Element.laws gen reg (drop (i + 1) msg) x some long law.proper c.loop-x.invariant.1
     (subst ok (sym c.x-item.is) (All-get_or ok msg i x c.loop-x-test.true c.all_proper.ensures)) (All-drop ok (i + 1) msg c.all_proper.ensures) in (
       ap (λ l. check o gen l (drop (i + 1) msg)) step ∙ more.0 ∙ ap (check o gen reg) (sym (drop_read msg i x c.loop-x-test.true c.x-item.is)) ∙ c.loop-x.invariant.0,
-      subst (All ok) (sym step) more.1,
+      subst (Each ok) (sym step) more.1,
     )
 
 pub returns : goal.returns
