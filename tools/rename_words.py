@@ -4,6 +4,7 @@
 usage: python3 tools/rename_words.py [FOLDER]      (the repository's top, by default the folder above this one)
 
 It was run once, right after the toolchain's port.py. The table beside it, words.tsv, has a line for each name: old, new.
+The recursive form of All, which the toolchain's script brings in under the library's own name, is called Each.
 In .antt files a name is turned wherever it stands but in comments; in .rt files where it stands outside comments, strings and characters.
 In answers and invariants, what follows one of the check's own records (`c.`, `w.`, `l.`, `goal.`) is left alone: those names are made by the check.
 """
@@ -14,9 +15,11 @@ import sys
 
 HERE = os.path.dirname(os.path.realpath(__file__))
 TOKEN = re.compile(r"[A-Za-z0-9_'\-₀-₉]+")
+ALL = re.compile(r"(?<![A-Za-z0-9_'\-.])All(?![A-Za-z0-9_'\-])")
 MADE = re.compile(r"(^|[^A-Za-z0-9_'\-.])(c|w|l|goal)\.$")
 ANSWERS = ("Answers.antt", "Invariants.antt", "Proof.antt")
 COMMENT = re.compile(r"(^|\s)--(\s.*|$)")
+SLASHES = re.compile(r"//")
 APART = re.compile(r"//[^\n]*|b?\"(?:[^\"\\]|\\.)*\"|b?'(?:[^'\\\n]|\\[^\n]+?)'", re.S)
 
 
@@ -53,6 +56,15 @@ def turned_rt(text, names, _made):
     return "".join(out)
 
 
+def each(text, comment):
+    out = []
+    for line in text.split("\n"):
+        m = comment.search(line)
+        at = m.start() if m else len(line)
+        out.append(ALL.sub("Each", line[:at]) + line[at:])
+    return "\n".join(out)
+
+
 def main():
     root = sys.argv[1] if len(sys.argv) > 1 else os.path.dirname(HERE)
     names = table()
@@ -66,6 +78,8 @@ def main():
             with open(path, encoding="utf-8") as f:
                 old = f.read()
             new = turn(old, names, name in ANSWERS)
+            if "AllByRecursion as All" in new:
+                new = each(new, COMMENT if name.endswith(".antt") else SLASHES)
             if new != old:
                 with open(path, "w", encoding="utf-8") as f:
                     f.write(new)
