@@ -150,7 +150,7 @@ def main() -> int:
     parser = argparse.ArgumentParser(description="Compares a program on generated calls.")
     parser.add_argument("seed", type=int)
     parser.add_argument("count", type=int)
-    parser.add_argument("program", nargs="?", default="target/bin/bench")
+    parser.add_argument("program", nargs="?", default="crates/bench/out/bench")
     parser.add_argument("--keep", metavar="FILE")
     chosen = parser.parse_args()
     result: List[Outcome] = []
