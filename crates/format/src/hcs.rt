@@ -20,17 +20,13 @@ impl Check for Hcs {
 
     const DEGREE: usize = 16;
 
-    ghost width = { 16 };
+    ghost DEGREE = { 16 };
 
     ghost generator = { hcs_generator };
 
     ghost preset = { replicate 16 true };
 
     ghost generates = { Prim.search rules };
-
-    fn width() -> usize {
-        Self::DEGREE
-    }
 
     fn generator(place: usize) -> bool {
         if place < 17 { GENERATOR[place] } else { false }

@@ -11,19 +11,15 @@ use elements::Element;
 pub trait Check {
     type Element: Element;
 
+    // How many elements the check has.
     const DEGREE: usize;
 
-    // How many elements the check has. It is what DEGREE is: no clause can cite a constant.
-    ghost width: { ℕ };
+    ghost DEGREE: { ℕ };
 
     // The generator's coefficients, the highest first, and that of the preset.
     ghost generator: { List Self.Element };
 
     ghost preset: { List Self.Element };
-
-    // Answers DEGREE.
-    fn width() -> usize
-        ensures { result ≡ width };
 
     // The coefficient at a place; zero past the end.
     fn generator(place: usize) -> Self::Element
@@ -32,25 +28,16 @@ pub trait Check {
     fn preset(place: usize) -> Self::Element
         ensures { result ≡ slice_index_or preset place Self.Element.Element.ops.zero };
 
-    ghost generates: { Generates Self.Element.Element.ok Self.Element.Element.ops width generator preset };
+    ghost generates: { Generates Self.Element.Element.ok Self.Element.Element.ops DEGREE generator preset };
 }
 
-// Fills the row with the generator's coefficients from the first on.
-fn load_generator<C: Check>(row: &mut [C::Element])
-    requires { length row.old ≡ length C.generator }
-    ensures { row.new ≡ C.generator }
+// Fills the row with what is answered for each place.
+fn load<E: Element, F: Fn(usize) -> E>(row: &mut [E], at: F)
+    requires { F.IsAlwaysCallable at }
+    ensures { (k : ℕ) → k < length row.old → F.post at k (slice_index_or row.new k E.ops.zero) }
 {
-    for i in 0..row.len() {
-        row[i] = C::generator(i);
-    }
-}
-
-fn load_preset<C: Check>(row: &mut [C::Element])
-    requires { length row.old ≡ length C.preset }
-    ensures { row.new ≡ C.preset }
-{
-    for i in 0..row.len() {
-        row[i] = C::preset(i);
+    for (i, x) in row.iter_mut().enumerate() {
+        *x = at(i);
     }
 }
 
@@ -59,11 +46,10 @@ fn lay_out<E: Element>(row: &mut [E], register: &[E], x: E)
     requires { (0 < length register.now) × (length row.old ≡ length register.now + 1) }
     ensures { row.new ≡ laid_out E.ops register.now x }
 {
-    for (i, r) in register.iter().enumerate() {
-        row[i] = *r;
-    }
+    let last = register.len();
+    row[..last].copy_from_slice(register);
     row[0] = row[0].add(x);
-    row[register.len()] = E::zero();
+    row[last] = E::zero();
 }
 
 // Takes one element more of a message into the register, by a division of one step.
@@ -76,15 +62,6 @@ fn absorb<E: Element>(register: &mut [E], x: E, generator: &[E], row: &mut [E])
     register.copy_from_slice(&row[1..]);
 }
 
-// Sets each place of the row to zero.
-fn wipe<E: Element>(row: &mut [E])
-    ensures { row.new ≡ replicate (length row.old) E.ops.zero }
-{
-    for i in 0..row.len() {
-        row[i] = E::zero();
-    }
-}
-
 // Leaves the check of the message in the register.
 fn take_in<C: Check>(
     message: &[C::Element],
@@ -92,7 +69,7 @@ fn take_in<C: Check>(
     row: &mut [C::Element],
     divisor: &[C::Element],
 )
-    requires { (register.old ≡ C.preset) × (length row.old ≡ C.width + 1) × (divisor.now ≡ C.generator) }
+    requires { (register.old ≡ C.preset) × (length row.old ≡ C.DEGREE + 1) × (divisor.now ≡ C.generator) }
     ensures { register.new ≡ check C.Element.Element.ops C.generator C.preset message.now }
 {
     all_proper(message);
@@ -109,20 +86,19 @@ pub fn checksum<C: Check>(
     row: &mut [C::Element],
     divisor: &mut [C::Element],
 ) -> Option<usize>
-    ensures answer { result ≡ (if room C.width out.old row.old divisor.old then Some C.width else None) }
-    ensures out { out.new ≡ (if room C.width out.old row.old divisor.old then check C.Element.Element.ops C.generator C.preset message.now else out.old) }
-    ensures row { row.new ≡ (if room C.width out.old row.old divisor.old then replicate (C.width + 1) C.Element.Element.ops.zero else row.old) }
-    ensures divisor { divisor.new ≡ (if room C.width out.old row.old divisor.old then C.generator else divisor.old) }
-    ensures remains { result ≡ Some C.width → Checks C.Element.Element.ops C.generator C.preset message.now out.new }
+    ensures answer { result ≡ (if room C.DEGREE out.old row.old divisor.old then Some C.DEGREE else None) }
+    ensures out { out.new ≡ (if room C.DEGREE out.old row.old divisor.old then check C.Element.Element.ops C.generator C.preset message.now else out.old) }
+    ensures row { row.new ≡ (if room C.DEGREE out.old row.old divisor.old then replicate (C.DEGREE + 1) C.Element.Element.ops.zero else row.old) }
+    ensures divisor { divisor.new ≡ (if room C.DEGREE out.old row.old divisor.old then C.generator else divisor.old) }
+    ensures remains { result ≡ Some C.DEGREE → Checks C.Element.Element.ops C.generator C.preset message.now out.new }
 {
-    let degree = C::width();
-    if out.len() != degree || row.len() != degree + 1 || divisor.len() != degree + 1 {
+    if out.len() != C::DEGREE || row.len() != C::DEGREE + 1 || divisor.len() != C::DEGREE + 1 {
         return None;
     }
     all_proper(message);
-    load_preset::<C>(out);
-    load_generator::<C>(divisor);
+    load(out, |i| C::preset(i));
+    load(divisor, |i| C::generator(i));
     take_in::<C>(message, out, row, divisor);
-    wipe(row);
-    Some(degree)
+    row.fill_with(|| C::Element::zero());
+    Some(C::DEGREE)
 }

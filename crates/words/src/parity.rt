@@ -17,17 +17,13 @@ impl Check for Parity {
 
     const DEGREE: usize = 16;
 
-    ghost width = { 16 };
+    ghost DEGREE = { 16 };
 
     ghost generator = { rs_generator };
 
     ghost preset = { replicate 16 0 };
 
     ghost generates = { parity_generates };
-
-    fn width() -> usize {
-        Self::DEGREE
-    }
 
     fn generator(place: usize) -> u8 {
         if place < 17 { GENERATOR[place] } else { 0 }
