@@ -1,11 +1,25 @@
 -- Tests over changes, one change at a time: what a loop that goes through them knows.
-use Rattle.std.proofs.Common.{◌≡◌, ℕ, ◌+◌, ◌<◌, ◌≤◌, true, false, not, ◌&&◌, ◌||◌, ltb, leb, List, [], ◌∷◌, length, get_or, drop, set, sym, refl, ap, ◌∙◌}
+use Rattle.std.proofs.Common.{◌≡◌, ℕ, ◌+◌, ◌<◌, ◌≤◌, true, false, not, ◌&&◌, ◌||◌, eqb, ltb, leb, List, [], ◌∷◌, length, get_or, drop, set, sym, refl, ap, ◌∙◌}
 use lib.Bits.{bit_xor}
+use Rattle.std.specs.List.{list_all, list_any}
 use Rattle.std.proofs.lemmas.List.{at_drop_more, at_drop_all, length-set}
 use Rattle.std.proofs.lemmas.Bool.{lt-ltb, le-ltb, eq-eqb, ne_eqb, ltb-true, and_parts, and_left, and_right, lt-leb, not_from_true, not_from_false}
 use Rattle.words.specs.declared.change.Change.{Change}
 use Rattle.words.specs.Coder.{word_long, is_codeword}
 use Rattle.words.specs.Changes.{changed, inside, named, once, nonzero, blank}
+
+-- the tests, by the library's words
+pub inside_is : (n : ℕ) (cs : List Change) → inside n cs ≡ list_all (λ c. ltb c.place n) cs
+inside_is n [] = refl
+inside_is n (c ∷ cs) = ap (λ t. ltb c.place n && t) (inside_is n cs)
+
+pub named_is : (p : ℕ) (cs : List Change) → named p cs ≡ list_any (λ c. eqb c.place p) cs
+named_is p [] = refl
+named_is p (c ∷ cs) = ap (λ t. eqb c.place p || t) (named_is p cs)
+
+pub nonzero_is : (cs : List Change) → nonzero cs ≡ list_all (λ c. not (eqb c.octet 0)) cs
+nonzero_is [] = refl
+nonzero_is (c ∷ cs) = ap (λ t. not (eqb c.octet 0) && t) (nonzero_is cs)
 
 -- the change at i, and those behind it
 abbrev pub at : List Change → ℕ → Change

@@ -10,32 +10,24 @@ use crate::fault::WordFault;
 fn all_inside(length: usize, changes: &[Change]) -> bool
     ensures { result ≡ inside length changes.now }
 {
-    for c in changes {
-        if c.place >= length {
-            return false;
-        }
-    }
-    true
+    changes.iter().all(|c| c.place < length)
 }
 
 fn is_named(place: usize, changes: &[Change]) -> bool
     ensures { result ≡ named place changes.now }
 {
-    for c in changes {
-        if c.place == place {
-            return true;
-        }
-    }
-    false
+    changes.iter().any(|c| c.place == place)
 }
 
 fn all_once(changes: &[Change]) -> bool
     ensures { result ≡ once changes.now }
 {
-    for (i, c) in changes.iter().enumerate() {
-        if is_named(c.place, &changes[i + 1..]) {
+    let mut left = changes;
+    while let [c, rest @ ..] = left {
+        if is_named(c.place, rest) {
             return false;
         }
+        left = rest;
     }
     true
 }
@@ -43,12 +35,7 @@ fn all_once(changes: &[Change]) -> bool
 fn all_nonzero(changes: &[Change]) -> bool
     ensures { result ≡ nonzero changes.now }
 {
-    for c in changes {
-        if c.octet == 0 {
-            return false;
-        }
-    }
-    true
+    changes.iter().all(|c| c.octet != 0)
 }
 
 // Adds each change's octet at its place.
@@ -57,19 +44,20 @@ fn put(word: &mut [u8], changes: &[Change])
     ensures { word.new ≡ changed word.old changes.now }
 {
     for c in changes {
-        word[c.place] = word[c.place] ^ c.octet;
+        word[c.place] ^= c.octet;
     }
 }
 
-// Whether the changes make a codeword of the word; the room is lent for a copy.
-fn makes_codeword(word: &[u8], changes: &[Change], room: &mut [u8]) -> bool
-    requires { (inside (length word.now) changes.now ≡ true) × (length room.old ≡ 240) }
+// Whether the changes make a codeword of the word.
+fn makes_codeword(word: &[u8], changes: &[Change]) -> bool
+    requires { inside (length word.now) changes.now ≡ true }
     ensures { result ≡ is_codeword (changed word.now changes.now) }
 {
+    let mut room = [0; 240];
     if word.len() > room.len() {
         return false;
     }
-    let copy = &mut room[0..word.len()];
+    let copy = &mut room[..word.len()];
     copy.copy_from_slice(word);
     put(copy, changes);
     is_codeword(copy)
@@ -79,7 +67,7 @@ fn makes_codeword(word: &[u8], changes: &[Change], room: &mut [u8]) -> bool
 pub fn accept(word: &[u8], changes: &[Change]) -> Result<(), WordFault>
     ensures { result ≡ verdict (fault_of word.now changes.now) }
 {
-    if changes.len() == 0 {
+    if changes.is_empty() {
         return Err(WordFault::Nothing);
     }
     if changes.len() > 8 {
@@ -94,8 +82,7 @@ pub fn accept(word: &[u8], changes: &[Change]) -> Result<(), WordFault>
     if !all_nonzero(changes) {
         return Err(WordFault::Zero);
     }
-    let mut room = [0u8; 240];
-    if !makes_codeword(word, changes, &mut room) {
+    if !makes_codeword(word, changes) {
         return Err(WordFault::NoCodeword);
     }
     Ok(())

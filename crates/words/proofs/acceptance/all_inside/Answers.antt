@@ -1,14 +1,12 @@
-use Rattle.std.proofs.Common.{sym, ◌∙◌}
-use Rattle.std.proofs.lemmas.List.{at_drop_all}
-use Rattle.words.specs.Changes.{inside}
-use Rattle.words.proofs.Scans.{inside_more, inside_stop}
+use Rattle.std.proofs.Common.{not, ltb, eqb, sym, ◌∙◌, rules}
+use borrow.Author.Tests.{tests}
+use Rattle.std.proofs.lemmas.Iterator.{YieldsList-from_slice}
+use Rattle.std.proofs.lemmas.Iterator.Search.{all_from_yields_List}
+use Rattle.words.specs.declared.change.Change.{Change}
+use Rattle.words.proofs.Scans.{inside_is}
 use Rattle.words.proofs.acceptance.all_inside.Goals as goal
 
-pub returns-then-c-length : goal.returns-then-c-length
-returns-then-c-length c = sym (inside_stop c.args.changes.now c.loop-c.c-index c.loop-c-test.true c.args.length c.if-c-length.true) ∙ c.loop-c.invariant
-
-pub loop-c-preserved : goal.loop-c-preserved
-loop-c-preserved c = inside_more c.args.changes.now c.loop-c.c-index c.loop-c-test.true c.args.length c.if-c-length.false ∙ c.loop-c.invariant
-
 pub returns : goal.returns
-returns c = sym (at_drop_all (inside c.args.length) c.args.changes.now c.loop-c.c-index c.loop-c-test.false) ∙ c.loop-c.invariant
+returns c =
+    all_from_yields_List (λ (x : Change). ltb x.place c.args.length) _ _ c.all.result c.all.ensures.ran (YieldsList-from_slice c.args.changes.now cc) (λ x b q k. search (rules, tests))
+    ∙ sym (inside_is c.args.length c.args.changes.now)

@@ -1,14 +1,12 @@
-use Rattle.std.proofs.Common.{sym, ◌∙◌}
-use Rattle.std.proofs.lemmas.List.{at_drop_all}
-use Rattle.words.specs.Changes.{nonzero}
-use Rattle.words.proofs.Scans.{nonzero_more, nonzero_stop}
+use Rattle.std.proofs.Common.{not, ltb, eqb, sym, ◌∙◌, rules}
+use borrow.Author.Tests.{tests}
+use Rattle.std.proofs.lemmas.Iterator.{YieldsList-from_slice}
+use Rattle.std.proofs.lemmas.Iterator.Search.{all_from_yields_List}
+use Rattle.words.specs.declared.change.Change.{Change}
+use Rattle.words.proofs.Scans.{nonzero_is}
 use Rattle.words.proofs.acceptance.all_nonzero.Goals as goal
 
-pub returns-then-c-eq0 : goal.returns-then-c-eq0
-returns-then-c-eq0 c = sym (nonzero_stop c.args.changes.now c.loop-c.c-index c.loop-c-test.true c.if-c-eq0.true) ∙ c.loop-c.invariant
-
-pub loop-c-preserved : goal.loop-c-preserved
-loop-c-preserved c = nonzero_more c.args.changes.now c.loop-c.c-index c.loop-c-test.true c.if-c-eq0.false ∙ c.loop-c.invariant
-
 pub returns : goal.returns
-returns c = sym (at_drop_all (nonzero) c.args.changes.now c.loop-c.c-index c.loop-c-test.false) ∙ c.loop-c.invariant
+returns c =
+    all_from_yields_List (λ (x : Change). not (eqb x.octet 0)) _ _ c.all.result c.all.ensures.ran (YieldsList-from_slice c.args.changes.now cc) (λ x b q k. search (rules, tests))
+    ∙ sym (nonzero_is c.args.changes.now)

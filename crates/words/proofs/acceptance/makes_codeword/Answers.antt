@@ -4,8 +4,8 @@ use Rattle.words.specs.Changes.{changed}
 use Rattle.words.proofs.Scans.{length_changed, too_long}
 use Rattle.words.proofs.acceptance.makes_codeword.Goals as goal
 
-pub returns-then-word-room : goal.returns-then-word-room
-returns-then-word-room c =
+pub returns-then-word-gt240 : goal.returns-then-word-gt240
+returns-then-word-gt240 c =
     let w = c.args.word.now in
     let cs = c.args.changes.now in
     sym (too_long (changed w cs) (omega (arith, length_changed w cs)))
