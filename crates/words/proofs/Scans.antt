@@ -26,34 +26,10 @@ abbrev pub at : List Change → ℕ → Change
 at cs i = get_or cs i blank
 
 module _ (cs : List Change) (i : ℕ) (h : i < length cs) where
-  pub inside_more : (n : ℕ) → (at cs i).place < n → inside n (drop (i + 1) cs) ≡ inside n (drop i cs)
-  inside_more n t = sym (at_drop_more (inside n) cs i blank h ∙ ap (λ b. b && inside n (drop (i + 1) cs)) (lt-ltb (at cs i).place n t))
-
-  pub inside_stop : (n : ℕ) → n ≤ (at cs i).place → inside n (drop i cs) ≡ false
-  inside_stop n t = at_drop_more (inside n) cs i blank h ∙ ap (λ b. b && inside n (drop (i + 1) cs)) (le-ltb (at cs i).place n t)
-
   pub inside_here : (n : ℕ) → inside n (drop i cs) ≡ true → ((at cs i).place < n) × (inside n (drop (i + 1) cs) ≡ true)
   inside_here n e =
       let parts = and_parts (ltb (at cs i).place n) (inside n (drop (i + 1) cs)) (sym (at_drop_more (inside n) cs i blank h) ∙ e) in
       (ltb-true (at cs i).place n parts.0, parts.1)
-
-  pub named_more : (p : ℕ) → ((at cs i).place ≡ p → ⊥) → named p (drop (i + 1) cs) ≡ named p (drop i cs)
-  named_more p t = sym (at_drop_more (named p) cs i blank h ∙ ap (λ b. b || named p (drop (i + 1) cs)) (ne_eqb (at cs i).place p t))
-
-  pub named_stop : (p : ℕ) → (at cs i).place ≡ p → named p (drop i cs) ≡ true
-  named_stop p t = at_drop_more (named p) cs i blank h ∙ ap (λ b. b || named p (drop (i + 1) cs)) (eq-eqb (at cs i).place p t)
-
-  pub once_more : named (at cs i).place (drop (i + 1) cs) ≡ false → once (drop (i + 1) cs) ≡ once (drop i cs)
-  once_more t = sym (at_drop_more once cs i blank h ∙ ap (λ b. b && once (drop (i + 1) cs)) (not_from_false _ t))
-
-  pub once_stop : named (at cs i).place (drop (i + 1) cs) ≡ true → once (drop i cs) ≡ false
-  once_stop t = at_drop_more once cs i blank h ∙ ap (λ b. b && once (drop (i + 1) cs)) (not_from_true _ t)
-
-  pub nonzero_more : ((at cs i).octet ≡ 0 → ⊥) → nonzero (drop (i + 1) cs) ≡ nonzero (drop i cs)
-  nonzero_more t = sym (at_drop_more nonzero cs i blank h ∙ ap (λ b. not b && nonzero (drop (i + 1) cs)) (ne_eqb (at cs i).octet 0 t))
-
-  pub nonzero_stop : (at cs i).octet ≡ 0 → nonzero (drop i cs) ≡ false
-  nonzero_stop t = at_drop_more nonzero cs i blank h ∙ ap (λ b. not b && nonzero (drop (i + 1) cs)) (eq-eqb (at cs i).octet 0 t)
 
   -- one change more is made
   pub changed_more : (w : List ℕ) → changed (set w (at cs i).place (bit_xor (get_or w (at cs i).place 0) (at cs i).octet)) (drop (i + 1) cs) ≡ changed w (drop i cs)

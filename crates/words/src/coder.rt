@@ -13,24 +13,24 @@ pub fn encode(message: &[u8], parity: &mut [u8]) -> Result<(), CoderFault>
     ensures answer { result ≡ (if codable message.now && length parity.old == 16 then Ok tt else Err Lengths) }
     ensures parity { parity.new ≡ (if codable message.now && length parity.old == 16 then parity_of message.now else parity.old) }
 {
-    if message.len() == 0 || message.len() > 224 || parity.len() != 16 {
+    if message.is_empty() || message.len() > 224 {
         return Err(CoderFault::Lengths);
     }
-    let mut row = [0u8; 17];
-    let mut divisor = [0u8; 17];
-    let _ = checksum::<Parity>(message, parity, &mut row, &mut divisor);
-    Ok(())
+    let mut row = [0; 17];
+    let mut divisor = [0; 17];
+    match checksum::<Parity>(message, parity, &mut row, &mut divisor) {
+        Some(_) => Ok(()),
+        None => Err(CoderFault::Lengths),
+    }
 }
 
 // Whether a row is a codeword: of 17 to 240 octets, the last 16 of which are the parity of the others.
 pub fn is_codeword(word: &[u8]) -> bool
     ensures { result ≡ is_codeword word.now }
 {
-    if word.len() < 17 || word.len() > 240 {
+    let Some((message, sent)) = word.split_last_chunk::<16>() else {
         return false;
-    }
-    let split = word.len() - 16;
-    let mut parity = [0u8; 16];
-    let _ = encode(&word[0..split], &mut parity);
-    differences(&parity, &word[split..]) == 0
+    };
+    let mut parity = [0; 16];
+    encode(message, &mut parity).is_ok() && differences(&parity, sent) == 0
 }

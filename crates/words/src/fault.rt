@@ -1,6 +1,8 @@
 // What is refused, and how a refusal is named.
-ghost use Rattle.std.specs.Prelude.{◌≡◌};
-ghost use Rattle.words.specs.Refusals.{cause_of, coder_refusal};
+ghost use Rattle.std.specs.Prelude.{◌≡◌, Some};
+ghost use Rattle.words.specs.Refusals.{cause_of, coder_refusal, layer_text};
+
+use std::fmt;
 
 // The layer that refuses.
 #[derive(Clone, Copy, PartialEq, Eq, Debug)]
@@ -10,6 +12,20 @@ pub enum Layer {
     Preamble,
     Header,
     Payload,
+}
+
+impl fmt::Display for Layer {
+    ghost output = { λ layer. Some (layer_text layer) };
+
+    fn fmt<W: fmt::Write>(&self, f: &mut fmt::Formatter<W>) -> fmt::Result {
+        f.write_str(match self {
+            Layer::WordCoder => "word coder",
+            Layer::Door => "door",
+            Layer::Preamble => "preamble",
+            Layer::Header => "header",
+            Layer::Payload => "payload",
+        })
+    }
 }
 
 // A refusal as it is reported: its number, its layer, and a place where it has one, else 0.
