@@ -9,19 +9,18 @@ use crate::parity::Parity;
 use polynomials::{checksum, differences};
 
 // Writes the parity of a message of 1 to 224 octets into a buffer of 16; refuses, with nothing written, at other lengths.
+#[tactic(auto, unfolding(coding::specs::Codewords::parity))]
 pub fn encode(message: &[u8], parity: &mut [u8]) -> Result<(), CoderFault>
     ensures answer { result ≡ (if codable message.now && length parity.old == 16 then Ok tt else Err Lengths) }
     ensures parity { parity.new ≡ (if codable message.now && length parity.old == 16 then parity_of message.now else parity.old) }
 {
-    if message.is_empty() || message.len() > 224 {
+    if !(1..=224).contains(&message.len()) {
         return Err(CoderFault::Lengths);
     }
     let mut row = [0; 17];
     let mut divisor = [0; 17];
-    match checksum::<Parity>(message, parity, &mut row, &mut divisor) {
-        Some(_) => Ok(()),
-        None => Err(CoderFault::Lengths),
-    }
+    checksum::<Parity>(message, parity, &mut row, &mut divisor).ok_or(CoderFault::Lengths)?;
+    Ok(())
 }
 
 // Whether a row is a codeword: of 17 to 240 octets, the last 16 of which are the parity of the others.
