@@ -39,6 +39,7 @@ fn all_nonzero(changes: &[Change]) -> bool
 }
 
 // Adds each change's octet at its place.
+#[tactic(auto, using(crate::proofs::Scans::inside_here, crate::proofs::Scans::changed_more, crate::proofs::Scans::changed_none))]
 fn put(word: &mut [u8], changes: &[Change])
     requires { inside (length word.old) changes.now ≡ true }
     ensures { word.new ≡ changed word.old changes.now }
