@@ -50,6 +50,7 @@ fn put(word: &mut [u8], changes: &[Change])
 }
 
 // Whether the changes make a codeword of the word.
+#[tactic(auto, using(crate::proofs::Scans::too_long, crate::proofs::Scans::length_changed))]
 fn makes_codeword(word: &[u8], changes: &[Change]) -> bool
     requires { inside (length word.now) changes.now ≡ true }
     ensures { result ≡ is_codeword (changed word.now changes.now) }
