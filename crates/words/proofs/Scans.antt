@@ -3,10 +3,10 @@ use Rattle.std.proofs.Common.{◌≡◌, ℕ, ◌+◌, ◌<◌, ◌≤◌, true,
 use lib.Bits.{bit_xor}
 use Rattle.std.specs.List.{list_all, list_any}
 use Rattle.std.proofs.lemmas.List.{at_drop_more, at_drop_all, length-set}
-use Rattle.std.proofs.lemmas.Bool.{lt-ltb, le-ltb, eq-eqb, ne_eqb, ltb-true, and_parts, and_left, and_right, lt-leb, not_from_true, not_from_false}
+use Rattle.std.proofs.lemmas.Bool.{ltb-true, and_parts, and_left, and_right, lt-leb}
 use Rattle.words.specs.declared.change.Change.{Change}
 use Rattle.words.specs.Coder.{word_long, is_codeword}
-use Rattle.words.specs.Changes.{changed, inside, named, once, nonzero, blank}
+use Rattle.words.specs.Changes.{changed, inside, named, nonzero, blank}
 
 -- the tests, by the library's words
 pub inside_is : (n : ℕ) (cs : List Change) → inside n cs ≡ list_all (λ c. ltb c.place n) cs

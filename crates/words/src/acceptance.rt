@@ -1,5 +1,6 @@
 // Which proposals are accepted, and what becomes of a word.
-ghost use Rattle.std.specs.Prelude.{◌≡◌, true, cond, length};
+ghost use Rattle.std.specs.Prelude.{◌≡◌, ◌==◌, true, not, cond, length, nat_lt};
+ghost use Rattle.std.specs.List.{list_all, list_any};
 ghost use Rattle.words.specs.Coder.{is_codeword};
 ghost use Rattle.words.specs.Changes.{changed, inside, named, once, nonzero, fault_of, verdict, mended};
 
@@ -8,17 +9,18 @@ use crate::coder::is_codeword;
 use crate::fault::WordFault;
 
 fn all_inside(length: usize, changes: &[Change]) -> bool
-    ensures { result ≡ inside length changes.now }
+    ensures { result ≡ list_all (λ c. nat_lt c.place length) changes.now }
 {
     changes.iter().all(|c| c.place < length)
 }
 
 fn is_named(place: usize, changes: &[Change]) -> bool
-    ensures { result ≡ named place changes.now }
+    ensures { result ≡ list_any (λ c. c.place == place) changes.now }
 {
     changes.iter().any(|c| c.place == place)
 }
 
+#[tactic(auto, using(crate::proofs::Scans::named_is))]
 fn all_once(changes: &[Change]) -> bool
     ensures { result ≡ once changes.now }
 {
@@ -33,7 +35,7 @@ fn all_once(changes: &[Change]) -> bool
 }
 
 fn all_nonzero(changes: &[Change]) -> bool
-    ensures { result ≡ nonzero changes.now }
+    ensures { result ≡ list_all (λ c. not (c.octet == 0)) changes.now }
 {
     changes.iter().all(|c| c.octet != 0)
 }
@@ -66,6 +68,7 @@ fn makes_codeword(word: &[u8], changes: &[Change]) -> bool
 }
 
 // Whether a proposal is accepted for a word; else the first rule that it breaks.
+#[tactic(auto, using(crate::proofs::Scans::inside_is, crate::proofs::Scans::nonzero_is))]
 pub fn accept(word: &[u8], changes: &[Change]) -> Result<(), WordFault>
     ensures { result ≡ verdict (fault_of word.now changes.now) }
 {
