@@ -1,8 +1,8 @@
 // Which proposals are accepted, and what becomes of a word.
-ghost use Rattle.std.specs.Prelude.{◌≡◌, ◌==◌, true, not, cond, length, nat_lt};
+ghost use Rattle.std.specs.Prelude.{◌≡◌, ◌==◌, true, not, length, nat_lt};
 ghost use Rattle.std.specs.List.{list_all, list_any};
 ghost use Rattle.words.specs.Coder.{is_codeword};
-ghost use Rattle.words.specs.Changes.{changed, inside, named, once, nonzero, fault_of, verdict, mended};
+ghost use Rattle.words.specs.Changes.{changed, inside, once, fault_of, verdict, mended};
 
 use crate::change::Change;
 use crate::coder::is_codeword;

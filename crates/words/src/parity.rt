@@ -26,7 +26,7 @@ impl Check for Parity {
     ghost generates = { parity_generates };
 
     fn generator(place: usize) -> u8 {
-        if place < 17 { GENERATOR[place] } else { 0 }
+        GENERATOR.get(place).copied().unwrap_or(0)
     }
 
     fn preset(_place: usize) -> u8 {
