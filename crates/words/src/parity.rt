@@ -25,6 +25,7 @@ impl Check for Parity {
 
     ghost generates = { parity_generates };
 
+    #[tactic(auto, using(crate::specs::GeneratorTable::generator_is))]
     fn generator(place: usize) -> u8 {
         GENERATOR.get(place).copied().unwrap_or(0)
     }
