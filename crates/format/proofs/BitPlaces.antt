@@ -2,7 +2,7 @@
 use Rattle.std.proofs.Common.{◌≡◌, ℕ, zero, suc, ◌-◌, ◌*◌, ◌/◌, ◌%◌, ◌^◌, ◌<◌, ◌≤◌, false, eqb, List, [], ◌∷◌, map, length, get_or, sym, ap, ◌∙◌, ap₂, ⊎_elim, le_of_suc-le-suc, not-suc-le-zero, arith}
 use lib.Bits.{bit_and}
 use Rattle.std.proofs.lemmas.Nat.{shr-shr, and_mask}
-use Rattle.std.proofs.lemmas.List.{get_or_append_left, get_or-append_right, get_or-map}
+use Rattle.std.proofs.lemmas.List.{get_or_append_left, get_or-append_right, get_or-map, length-map}
 use Rattle.std.proofs.lemmas.Bool.{cases_lt}
 use Rattle.format.specs.Bits.{bits, line, flag}
 use Rattle.format.proofs.Lengths.{length_bits, length_line}
@@ -43,3 +43,6 @@ pub flag_at : (os : List ℕ) (i : ℕ) → i < 8 * length os → eqb (bit_and (
 flag_at os i h =
     ap flag (and_mask (get_or os (i / 8) 0 / 2 ^ (i % 8)) 1 ∙ sym (line_at os i h))
     ∙ sym (get_or-map flag (line os) i 0 false (omega (arith, length_line os)))
+
+pub length_flags : (os : List ℕ) → length (map flag (line os)) ≡ 8 * length os
+length_flags os = length-map (line os) flag ∙ length_line os

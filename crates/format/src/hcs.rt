@@ -29,7 +29,7 @@ impl Check for Hcs {
     ghost generates = { Prim.search rules };
 
     fn generator(place: usize) -> bool {
-        if place < 17 { GENERATOR[place] } else { false }
+        GENERATOR.get(place).copied().unwrap_or(false)
     }
 
     fn preset(place: usize) -> bool {
@@ -42,8 +42,8 @@ fn lay_bits(octets: &[u8], room: &mut [bool])
     requires { length room.old ≡ 8 * length octets.now }
     ensures { room.new ≡ map flag (line octets.now) }
 {
-    for i in 0..room.len() {
-        room[i] = octets[i / 8] >> (i % 8) & 1 == 1;
+    for (i, bit) in room.iter_mut().enumerate() {
+        *bit = octets[i / 8] >> (i % 8) & 1 == 1;
     }
 }
 
@@ -65,7 +65,7 @@ pub fn header_check(octets: &[u8], room: &mut [bool]) -> Option<[u8; 2]>
     ensures answer { result ≡ (if nat_eq (length room.old) (8 * length octets.now) then Some (hcs octets.now) else None) }
     ensures room { room.new ≡ (if nat_eq (length room.old) (8 * length octets.now) then map flag (line octets.now) else room.old) }
 {
-    if room.len() % 8 != 0 || room.len() / 8 != octets.len() {
+    if octets.len().checked_mul(8) != Some(room.len()) {
         return None;
     }
     lay_bits(octets, room);
@@ -73,5 +73,5 @@ pub fn header_check(octets: &[u8], room: &mut [bool]) -> Option<[u8; 2]>
     let mut row = [false; 17];
     let mut divisor = [false; 17];
     let _ = checksum::<Hcs>(room, &mut check, &mut row, &mut divisor);
-    Some([inverted_octet(&check[0..8]), inverted_octet(&check[8..16])])
+    Some([inverted_octet(&check[..8]), inverted_octet(&check[8..])])
 }
