@@ -1,7 +1,7 @@
 -- A check taken in element by element is the remainder of the whole message.
 use Rattle.std.proofs.Common.{◌≡◌, ℕ, suc, ◌+◌, ◌-◌, ◌<◌, ◌≤◌, Bool, true, false, cond, List, [], ◌∷◌, ◌++◌, length, get_or, take, drop, set, replicate, Some, None, Option, sym, refl, ap, ◌∙◌, subst, ap₂, le_of_suc-le-suc, not-suc-le-zero, arith}
 use Rattle.std.specs.List.{AllByRecursion as Each}
-use Rattle.std.proofs.lemmas.List.{take_all, take_more, take_more_set, set_split, drop_all, length_push, length-append, length-replicate, length-drop}
+use Rattle.std.proofs.lemmas.List.{set_at, length_push, length-append, length-replicate, length-drop}
 use Rattle.std.proofs.ByRecursion.{All-append, All-push, All-drop}
 use Rattle.elements.specs.Laws.{Operations, Laws}
 use Rattle.polynomials.specs.Polynomials.{onto}
@@ -9,25 +9,13 @@ use Rattle.polynomials.specs.Division.{less, divided, division, Left}
 use Rattle.polynomials.proofs.Remainders.{length_divided, length_onto, zero_plus, zeros_ok, onto_ok, divided_ok, division_left}
 use Rattle.polynomials.specs.Checks.{dividend, check, stepped, laid_out, Checks, Generates}
 
--- a row that is filled place by place from another
-pub load_more : {E : Type 0} (row from : List E) (i : ℕ) (d y : E) → i < length row → i < length from → y ≡ get_or from i d → take i row ≡ take i from
-    → take (i + 1) (set row i y) ≡ take (i + 1) from
-load_more row from i d y h k e same =
-    take_more_set row i y h ∙ ap₂ (λ p a. p ++ (a ∷ [])) same e ∙ sym (take_more from i d k)
-
-pub load_all : {E : Type 0} (row from : List E) (i : ℕ) → length row ≤ i → length from ≤ i → take i row ≡ take i from → row ≡ from
-load_all row from i h k e = sym (take_all i row h) ∙ e ∙ take_all i from k
-
--- what is laid out, from writes to a row that begins with the register
-pub laid_is : {E : Type 0} (o : Operations E) (row reg : List E) (x a y z : E) → 0 < length reg → length row ≡ length reg + 1 → take (length reg) row ≡ reg
-    → a ≡ get_or row 0 a → y ≡ o.add a x → z ≡ o.zero → set (set row 0 y) (length reg) z ≡ laid_out o reg x
-laid_is o row [] x a y z some long same ea ey ez = absurd (not-suc-le-zero some)
-laid_is o [] (r ∷ rs) x a y z some long same ea ey ez = absurd (omega arith)
-laid_is o (b ∷ bs) (r ∷ rs) x a y z some long same ea ey ez =
-    let first : a ≡ r = cc in
-    let rest : take (length rs) bs ≡ rs = cc in
-    ap₂ (λ p l. p ∷ l) (ey ∙ ap (λ t. o.add t x) first)
-    (set_split bs (length rs) z (omega arith) ∙ ap₂ (λ p l. p ++ (z ∷ l)) rest (drop_all (suc (length rs)) bs (omega arith)) ∙ ap (λ t. rs ++ (t ∷ [])) ez)
+-- what is laid out, from writes to a row that begins with the register and is one place longer
+pub laid_is : {E : Type 0} (o : Operations E) (reg tail : List E) (x a : E) → 0 < length reg → length tail ≡ 1 → a ≡ get_or (reg ++ tail) 0 a
+    → set (set (reg ++ tail) 0 (o.add a x)) (length reg) o.zero ≡ laid_out o reg x
+laid_is o [] tail x a some one e = absurd (not-suc-le-zero some)
+laid_is o (r ∷ rs) [] x a some one e = absurd (omega arith)
+laid_is o (r ∷ rs) (t ∷ []) x a some one e = ap₂ (λ p l. p ∷ l) (ap (λ b. o.add b x) e) (set_at rs t [] o.zero (length rs) refl)
+laid_is o (r ∷ rs) (t ∷ u ∷ ts) x a some one e = absurd (omega arith)
 
 module _ {E : Type 0} {ok : E → Type 0} {o : Operations E} (laws : Laws ok o) where
   -- a zero more at the end of what is added changes nothing

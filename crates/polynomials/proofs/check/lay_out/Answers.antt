@@ -1,11 +1,11 @@
-use Rattle.std.proofs.Common.{arith, rules, ◌∙◌, ap, length}
-use Rattle.std.proofs.lemmas.List.{take_at}
+use Rattle.std.proofs.Common.{◌≡◌, ◌++◌, length, get_or, drop, arith, length-drop}
 use Rattle.polynomials.proofs.Streams.{laid_is}
 use Rattle.polynomials.proofs.check.lay_out.Goals as goal
 
 pub returns : goal.returns
 returns g c =
-    let copied = c.copy_from_slice.ensures.after in
-    laid_is g.E.Element.ops _ c.args.register.now c.args.x c.index-row-0.result c.add.result c.zero.result
-    (omega arith) (search rules) (take_at _ _ _ (ap length copied) ∙ copied)
-    c.index-row-0.is c.add.ensures c.zero.ensures
+    let reg = c.args.register.now in
+    let tail = drop (length reg) c.args.row.now in
+    let first : c.index-row-0.result ≡ get_or (reg ++ tail) 0 c.index-row-0.result = cc in
+    let made = laid_is g.E.Element.ops reg tail c.args.x c.index-row-0.result (omega arith) (simp length-drop (omega arith)) first in
+    cc
