@@ -6,6 +6,7 @@ ghost use Rattle.polynomials.specs.Division.{less, division, Left};
 use elements::Element;
 
 // Takes f times the row `by` from the row, place by place from the first on.
+#[tactic(auto, using(crate::proofs::Rows::less_next))]
 fn take_multiple<E: Element>(row: &mut [E], f: E, by: &[E])
     requires { length by.now ≤ length row.old }
     ensures { row.new ≡ less E.ops f by.now row.old }
@@ -17,6 +18,7 @@ fn take_multiple<E: Element>(row: &mut [E], f: E, by: &[E])
 
 // Divides the row by the divisor: leaves the quotient in its place and then the remainder, and answers where the remainder begins.
 // None, with nothing written, if the divisor is empty or its highest coefficient is zero.
+#[tactic(auto, using(crate::proofs::Divisions::divided_next, crate::proofs::Divisions::division_is, crate::proofs::Divisions::divided_done))]
 pub fn remainder<E: Element>(row: &mut [E], divisor: &[E]) -> Option<usize>
     ensures answer { result ≡ (division E.ops divisor.now row.old).0 }
     ensures row { row.new ≡ (division E.ops divisor.now row.old).1 }

@@ -7,11 +7,6 @@ use Rattle.polynomials.proofs.Rows.{drop_read}
 use Rattle.polynomials.proofs.Streams.{check_more, check_done}
 use Rattle.polynomials.proofs.check.take_in.Goals as goal
 
-pub loop-x-init : goal.loop-x-init
-loop-x-init g c =
-    let o = g.C.Element.Element.ops in
-    (ap (λ l. check o g.C.Check.generator l c.args.message.now) c.requires.0, subst (Each g.C.Element.Element.ok) (sym c.requires.0) g.met.C.Check.generates.preset_proper)
-
 pub loop-x-preserved : goal.loop-x-preserved
 loop-x-preserved g c =
     let o = g.C.Element.Element.ops in

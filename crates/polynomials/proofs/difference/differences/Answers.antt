@@ -1,6 +1,4 @@
-use Rattle.std.proofs.Common.{◌+◌, true, false, drop, ap, arith}
-use Rattle.std.proofs.lemmas.List.{drop_all}
-use Rattle.polynomials.specs.Differences.{differing}
+use Rattle.std.proofs.Common.{◌+◌, true, false, arith}
 use Rattle.polynomials.proofs.Rows.{differing_next, differing_past}
 use Rattle.polynomials.proofs.difference.differences.Goals as goal
 
@@ -20,8 +18,3 @@ loop-i-preserved g c =
             omega (arith, w.n-is, differing_past o a b i i v.if-i-b.false, differing_past o a b (i + 1) (i + 1) (omega (arith, v.if-i-b.false)))
       ]
     ]
-
-pub returns : goal.returns
-returns g c =
-    let done = ap (λ l. differing g.E.Element.ops l (drop c.loop-i.i c.args.b.now)) (drop_all c.loop-i.i c.args.a.now c.loop-i-test.false) in
-    omega (arith, done, c.loop-i.invariant.1)
