@@ -79,10 +79,10 @@ impl<A: Mender, B: Mender> Mender for Then<A, B> {
     }
 
     fn propose(&mut self, word: &[u8], out: &mut [Change; 16]) -> Option<usize> {
-        if let Some(n) = self.first.propose(word, out) {
-            if accept(word, &out[0..n]).is_ok() {
-                return Some(n);
-            }
+        if let Some(n) = self.first.propose(word, out)
+            && accept(word, &out[..n]).is_ok()
+        {
+            return Some(n);
         }
         self.second.propose(word, out)
     }

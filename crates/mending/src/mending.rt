@@ -16,6 +16,6 @@ pub fn mend<M: Mender>(mender: &mut M, word: &mut [u8]) -> Result<usize, WordFau
     let Some(n) = mender.propose(word, &mut out) else {
         return Err(WordFault::Nothing);
     };
-    apply(word, &out[0..n])?;
+    apply(word, &out[..n])?;
     Ok(n)
 }
