@@ -72,6 +72,6 @@ pub fn header_check(octets: &[u8], room: &mut [bool]) -> Option<[u8; 2]>
     let mut check = [false; 16];
     let mut row = [false; 17];
     let mut divisor = [false; 17];
-    let _ = checksum::<Hcs>(room, &mut check, &mut row, &mut divisor);
+    checksum::<Hcs>(room, &mut check, &mut row, &mut divisor)?;
     Some([inverted_octet(&check[..8]), inverted_octet(&check[8..])])
 }
