@@ -24,16 +24,16 @@ impl Mender for Leaf {
     fn reach(&self) -> usize {
         match self {
             Leaf::Still => Still {}.reach(),
-            Leaf::Single => Single.reach(),
-            Leaf::Full => Full.reach(),
+            Leaf::Single => Single {}.reach(),
+            Leaf::Full => Full {}.reach(),
         }
     }
 
     fn propose(&mut self, word: &[u8], out: &mut [Change; 16]) -> Option<usize> {
         match self {
             Leaf::Still => Still {}.propose(word, out),
-            Leaf::Single => Single.propose(word, out),
-            Leaf::Full => Full.propose(word, out),
+            Leaf::Single => Single {}.propose(word, out),
+            Leaf::Full => Full {}.propose(word, out),
         }
     }
 }

@@ -28,11 +28,15 @@ finds t small w c (Some cs) f code long some near =
     let same = one_within w f.codeword c f.coded code f.long long far (omega arith) in
     (cs, refl, subst (λ d. Difference w d cs) same f.difference)
 
-pub nearest_mends : {M : Type 0} (t : ℕ) → t ≤ 8 → Mends {M = M} (λ _. t) (λ s w a s'. Nearest t w a)
-nearest_mends t small = record {
-  small = λ s. small;
+-- where the mender itself says that its reach is at most 8
+pub nearest_mends_within : {M : Type 0} (t : ℕ) → (M → t ≤ 8) → Mends {M = M} (λ _. t) (λ s w a s'. Nearest t w a)
+nearest_mends_within t small = record {
+  small = small;
   stays = λ s w a s' n. refl;
-  few = λ s w cs s' f. (f.some, omega (arith, f.near), f.adds);
+  few = λ s w cs s' f. let near = small s in (f.some, omega (arith, f.near), f.adds);
   words_only = λ s w a s' n. words_only t w a n;
-  finds = λ s w c a s' n h. finds t small w c a n;
+  finds = λ s w c a s' n h. finds t (small s) w c a n;
 }
+
+pub nearest_mends : {M : Type 0} (t : ℕ) → t ≤ 8 → Mends {M = M} (λ _. t) (λ s w a s'. Nearest t w a)
+nearest_mends t small = nearest_mends_within t (λ s. small)

@@ -1,12 +1,10 @@
 // Menders that look for the codeword next to a word.
 #![tactic(auto)]
 
-pub mod full;
+pub mod decoder;
 mod kernel;
 mod search;
-pub mod single;
 mod syndrome;
 mod values;
 
-pub use full::Full;
-pub use single::Single;
+pub use decoder::{Decoder, Full, Single};
