@@ -7,7 +7,7 @@ use Rattle.coding.proofs.Locator.{slide_same}
 use Rattle.coding.proofs.Values.{length_from_roots}
 use Rattle.menders.specs.Locators.{Locates}
 
-length_others : (y : ℕ) (zs : List ℕ) → length (others octets y zs) ≤ length zs
+pub length_others : (y : ℕ) (zs : List ℕ) → length (others octets y zs) ≤ length zs
 length_others y [] = omega arith
 length_others y (z ∷ zs) =
     let rest = length_others y zs in

@@ -1,63 +1,70 @@
--- Steps of elimination over rows of octets in an array, the rows in use first.
-use Rattle.std.proofs.Common.{◌≡◌, ℕ, zero, suc, ◌+◌, ◌-◌, ◌<◌, ◌≤◌, List, [], ◌∷◌, ◌++◌, length, get_or, take, drop, set, sym, refl, ap, ◌∙◌, subst, ap₂, add-one, arith}
-use Rattle.std.specs.List.{AllByRecursion as Each}
-use Rattle.std.proofs.lemmas.List.{append_assoc, append-nil, drop_more, drop_all, take-take, take_more_set, get_or-take, length-take-le}
-use Rattle.elements.specs.Octets.{octets, product, inverse}
-use Rattle.coding.specs.Sums.{Nonzero}
-use Rattle.coding.specs.Kernel.{dot, add_mul, clear_rows, eliminate_rows, kernel_rows}
+-- Steps of elimination over rows of octets.
+use Rattle.std.proofs.Common.{◌≡◌, ℕ, zero, suc, ◌+◌, ◌-◌, ◌<◌, ◌≤◌, Bool, true, false, cond, not, eqb, List, [], ◌∷◌, ◌++◌, length, get_or, take, drop, Some, None, Option, sym, refl, ap, ◌∙◌, subst, ap₂, add-one, arith, length-append}
+use Rattle.std.specs.List.{position, position_from, refill, remove}
+use Rattle.std.proofs.ByRecursion.{All-from_get_or}
+use Rattle.std.proofs.lemmas.Bool.{eqb-true, eqb-false, not-true, not-false}
+use Rattle.std.proofs.lemmas.List.{append-nil, drop_more, drop_all, get_or-take, get_or_default, length-take-le, take_rest}
+use Rattle.std.proofs.Math.Seq.{take-append_seam, drop-append_seam}
+use Rattle.arrayvec.proofs.ArrayVecLemmas.{items-with_items}
+use Rattle.std.proofs.lemmas.List.Quantifiers.{position-Some}
+use Rattle.std.proofs.lemmas.Iterator.Adapters.{position_from-zero}
+use Rattle.elements.specs.Octets.{octets}
+use Rattle.coding.specs.Kernel.{dot, clear_rows, eliminate_rows, kernel_rows}
 use Rattle.coding.specs.Decoder.{window, windows}
+use Rattle.coding.proofs.KernelRows.{length_clear_rows}
 use Rattle.coding.proofs.OctetDecoder.{octets_eliminate_at}
 use Rattle.menders.specs.Locators.{entries}
 
--- what stands from i on in the first n of a row
-unfoldable pub part : {A : Type 0} → ℕ → ℕ → List A → List A
-part i n xs = drop i (take n xs)
+-- a row that does not solve the equation r
+abbrev Unsolved : List ℕ → List ℕ → Bool
+Unsolved r v = not (eqb (dot octets r v) 0)
 
-pub part_more : {A : Type 0} (xs : List A) (i n : ℕ) (d : A) → i < n → n ≤ length xs → part i n xs ≡ get_or xs i d ∷ part (i + 1) n xs
-unfolding part
-part_more xs i n d below fits =
-    drop_more (take n xs) i d (omega (arith, length-take-le n xs fits)) ∙ ap (λ x. x ∷ drop (i + 1) (take n xs)) (get_or-take n xs i d below)
+none_from : (r : List ℕ) (vs : List (List ℕ)) (i : ℕ) → position_from (Unsolved r) i vs ≡ None → eliminate_rows octets r vs ≡ vs
+none_from r [] i h = refl
+none_from r (v ∷ vs) i h =
+    elim (eqb (dot octets r v) 0) as (λ b. cond (not b) (Some i) (position_from (Unsolved r) (i + 1) vs) ≡ None → cond b (v ∷ eliminate_rows octets r vs) (clear_rows octets r v vs) ≡ v ∷ vs) [
+      | true ↦ λ n. ap (λ l. v ∷ l) (none_from r vs (i + 1) n)
+      | false ↦ λ n. cc
+    ] h
 
--- a write before i changes nothing from i on
-pub part_write : {A : Type 0} (xs : List A) (i j n : ℕ) (x : A) → j < i → part i n (set xs j x) ≡ part i n xs
-unfolding part
-part_write xs i j zero x before = refl
-part_write [] i j (suc n) x before = refl
-part_write (y ∷ ys) zero j (suc n) x before = absurd (omega arith)
-part_write (y ∷ ys) (suc i) zero (suc n) x before = refl
-part_write (y ∷ ys) (suc i) (suc j) (suc n) x before = part_write ys i j n x (omega arith)
-
--- the row i is cleared, and moved one place forward
-pub clear_more : (r p : List ℕ) (rows : List (List ℕ)) (i n : ℕ) (y : List ℕ) → 0 < i → i < n → n ≤ length rows
-    → y ≡ add_mul octets (product (dot octets r (get_or rows i [])) (inverse (dot octets r p))) (get_or rows i []) p
-    → take (i + 1 - 1) (set rows (i - 1) y) ++ clear_rows octets r p (drop (i + 1) (take n (set rows (i - 1) y)))
-    ≡ take (i - 1) rows ++ clear_rows octets r p (drop i (take n rows))
-unfolding part
-clear_more r p rows i n y some below fits e =
-    let here : i + 1 - 1 ≡ i - 1 + 1 = omega arith in
-    let C = clear_rows octets r p in
-    ap (λ k. take k (set rows (i - 1) y) ++ C (part (i + 1) n (set rows (i - 1) y))) here
-    ∙ ap₂ (λ a b. a ++ C b) (take_more_set rows (i - 1) y (omega arith)) (part_write rows (i + 1) (i - 1) n y (omega arith))
-    ∙ append_assoc (take (i - 1) rows) (y ∷ []) (C (part (i + 1) n rows))
-    ∙ ap (λ l. take (i - 1) rows ++ l) (ap (λ x. x ∷ C (part (i + 1) n rows)) e ∙ sym (ap C (part_more rows i n [] below fits)))
-
-pub clear_all : (r p : List ℕ) (rows : List (List ℕ)) (n : ℕ) → n ≤ length rows
-    → take (n - 1) rows ++ clear_rows octets r p (drop n (take n rows)) ≡ take (n - 1) rows
-clear_all r p rows n fits =
-    ap (λ l. take (n - 1) rows ++ clear_rows octets r p l) (drop_all n (take n rows) (omega (arith, length-take-le n rows fits))) ∙ append-nil (take (n - 1) rows)
+-- where each row solves the equation nothing changes
+pub all_solve : (r : List ℕ) (vs : List (List ℕ)) (o : Option ℕ) → o ≡ position (Unsolved r) vs → o ≡ None → eliminate_rows octets r vs ≡ vs
+all_solve r vs o e none = none_from r vs 0 (sym (position_from-zero (Unsolved r) vs) ∙ sym e ∙ none)
 
 -- the first row that does not solve the equation goes
-pub eliminate_row : (r : List ℕ) (rows left : List (List ℕ)) (p n : ℕ) → p < n → n ≤ length rows
-    → Each (λ v. dot octets r v ≡ 0) (take p rows) → Nonzero octets (dot octets r (get_or rows p []))
-    → left ≡ take p rows ++ clear_rows octets r (get_or rows p []) (drop (p + 1) (take n rows)) → left ≡ eliminate_rows octets r (take n rows)
-eliminate_row r rows left p n below fits solved unsolved cleared =
-    let same_front = take-take p n rows (omega arith) in
-    let same_row = get_or-take n rows p [] below in
-    cleared
-    ∙ sym (octets_eliminate_at r p (take n rows) (omega (arith, length-take-le n rows fits)) (subst (Each (λ v. dot octets r v ≡ 0)) (sym same_front) solved)
-    (subst (λ v. Nonzero octets (dot octets r v)) (sym same_row) unsolved)
-    ∙ ap₂ (λ a b. a ++ clear_rows octets r b (drop (suc p) (take n rows))) same_front same_row
-    ∙ ap (λ k. take p rows ++ clear_rows octets r (get_or rows p []) (drop k (take n rows))) (sym (add-one p)))
+one_goes : (r : List ℕ) (vs : List (List ℕ)) (p : ℕ) → position (Unsolved r) vs ≡ Some p
+    → (p < length vs) × (eliminate_rows octets r vs ≡ take p vs ++ clear_rows octets r (get_or vs p []) (drop (suc p) vs))
+one_goes r vs p some =
+    let at = position-Some (Unsolved r) vs p [] some in
+    let solves : (k : ℕ) → k < p → dot octets r (get_or vs k []) ≡ 0 = λ k below. eqb-true _ _ (not-false _ (at.2 k below)) in
+    let solved = All-from_get_or (λ v. dot octets r v ≡ 0) (take p vs) []
+    (λ k h. let below : k < p = omega (arith, length-take-le p vs (omega arith)) in ap (dot octets r) (get_or-take p vs k [] below) ∙ solves k below) in
+    (at.0, octets_eliminate_at r p vs at.0 solved (eqb-false _ _ (not-true _ at.1)))
+
+-- the rows behind the first p are written anew
+rewritten : {A : Type 0} (p : ℕ) (F R C : List A) → length F ≡ p → length C ≡ length R
+    → refill (length (F ++ R)) (F ++ R) (take p (F ++ R) ++ (C ++ drop (length (F ++ R) - p) (drop p (F ++ R)))) ≡ F ++ C
+rewritten p F R C e long =
+    let L = F ++ R in
+    let front : take p (F ++ R) ≡ F = subst (λ n. take n (F ++ R) ≡ F) e (take-append_seam F R) in
+    let back : drop p (F ++ R) ≡ R = subst (λ n. drop n (F ++ R) ≡ R) e (drop-append_seam F R) in
+    let none = drop_all (length L - p) (drop p L) (omega (arith, ap length back, length-append F R)) in
+    ap (refill (length L) L) (ap₂ (λ a b. a ++ (C ++ b)) front none ∙ ap (λ l. F ++ l) (append-nil C))
+    ∙ items-with_items (record { items = L }) (F ++ C) (omega (arith, length-append F R, length-append F C))
+
+pub eliminated : (r : List ℕ) (vs L : List (List ℕ)) (o : Option ℕ) (p : ℕ) (pivot : List ℕ) → o ≡ position (Unsolved r) vs → o ≡ Some p → L ≡ remove vs p
+    → pivot ≡ get_or vs p pivot → let C = clear_rows octets r pivot (take (length L - p) (drop p L)) in
+    refill (length L) L (take p L ++ (C ++ drop (length L - p) (drop p L))) ≡ eliminate_rows octets r vs
+eliminated r vs L o p pivot found some gone row =
+    let goes = one_goes r vs p (sym found ∙ some) in
+    let F = take p vs in
+    let R = drop (suc p) vs in
+    let front = length-take-le p vs (omega (arith, goes.0)) in
+    let rest : take (length (F ++ R) - p) (drop p (F ++ R)) ≡ R = take_rest (F ++ R) p ∙ subst (λ n. drop n (F ++ R) ≡ R) front (drop-append_seam F R) in
+    ap (λ l. refill (length l) l (take p l ++ (clear_rows octets r pivot (take (length l - p) (drop p l)) ++ drop (length l - p) (drop p l)))) gone
+    ∙ ap (λ l. refill (length (F ++ R)) (F ++ R) (take p (F ++ R) ++ (clear_rows octets r pivot l ++ drop (length (F ++ R) - p) (drop p (F ++ R))))) rest
+    ∙ rewritten p F R (clear_rows octets r pivot R) front (length_clear_rows octets r pivot R)
+    ∙ ap (λ v. F ++ clear_rows octets r v R) (row ∙ get_or_default vs p pivot [] goes.0) ∙ sym goes.1
 
 -- n entries from k on, as an equation
 pub window_part : (xs : List ℕ) (k n : ℕ) → k + n ≤ length xs → take n (drop k xs) ≡ window (entries xs) k n

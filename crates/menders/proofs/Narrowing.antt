@@ -1,7 +1,7 @@
 -- Elimination over rows that are wider than the equations does to their first coordinates what it does to rows of the equations' width.
-use Rattle.std.proofs.Common.{◌≡◌, ℕ, zero, suc, ◌<◌, ◌≤◌, Bool, true, false, cond, List, [], ◌∷◌, map, length, get_or, take, sym, refl, ap, ◌∙◌, subst, ap₂, arith}
+use Rattle.std.proofs.Common.{◌≡◌, ℕ, zero, suc, ◌+◌, ◌<◌, ◌≤◌, Bool, true, false, cond, List, [], ◌∷◌, map, length, get_or, take, sym, refl, ap, ◌∙◌, subst, ap₂, add-one, arith}
 use Rattle.std.specs.List.{AllByRecursion as Each}
-use Rattle.std.proofs.lemmas.List.{take-replicate, length-replicate, length-map, get_or-take}
+use Rattle.std.proofs.lemmas.List.{take-replicate, length-replicate, length-map}
 use Rattle.elements.specs.Laws.{Operations}
 use Rattle.elements.specs.Octets.{octets, Octet}
 use Rattle.coding.specs.Kernel.{dot, add_mul, clear_rows, eliminate_rows, kernel_rows, unit, unit_rows, Solves}
@@ -114,33 +114,34 @@ narrow_windows : {F : Type 0} (s : ℕ → F) (n k t : ℕ) → Each (Narrow n) 
 narrow_windows s n k zero = tt
 narrow_windows s n k (suc t) = (omega (arith, length_window s k n), narrow_windows s n (suc k) t)
 
--- the first row that is left, cut to t + 1 coordinates, locates the wrong places
-pub first_locates : (s : ℕ → ℕ) (t m count : ℕ) (rows : List (List ℕ)) → ((i : ℕ) → Octet (s i)) → suc t ≤ m
-    → take count rows ≡ kernel_rows octets (windows s (suc t) 0 t) (unit_rows octets m 0 (suc t)) → Locates s t (take (suc t) (get_or rows 0 []))
-first_locates s t m count rows hs le e =
-    let n = suc t in
-    let rs = windows s (suc t) 0 t in
-    let hrs = windows_octets s hs n 0 t in
-    let left = narrowed octets n m rs le (narrow_windows s n 0 t) in
-    let E = map (take n) (take count rows) in
-    let same : E ≡ kernel_rows octets rs (unit_rows octets n 0 n) = ap (map (take n)) e ∙ left in
-    let some : 0 < length (map (take (suc t)) (take count rows)) = subst (λ l. 0 < length l) (sym same) (octets_rows_left n rs hrs (omega (arith, length_windows s n 0 t))) in
-    go count (omega (arith, length-map (take count rows) (take (suc t)))) (subst (Each (λ v. Solves octets n rs v × Each Octet v)) (sym same) (octets_rows_solve n rs hrs))
-  where
-    located : (v : List ℕ) → Solves octets (suc t) (windows s (suc t) 0 t) v → Each Octet v → Locates s t v
-    located v g hv = record {
-      long = g.long;
-      proper = hv;
-      some = g.some;
-      solves = λ k below. windows_slide octets s (suc t) t 0 v (omega (arith, g.long)) g.solves k (omega arith) (omega arith);
-    }
+module _ (s : ℕ → ℕ) (t m : ℕ) (rows : List (List ℕ)) (hs : (i : ℕ) → Octet (s i)) (le : suc t ≤ m)
+    (e : rows ≡ kernel_rows octets (windows s (t + 1) 0 t) (unit_rows octets m 0 (t + 1))) where
+  cut : map (take (suc t)) rows ≡ kernel_rows octets (windows s (suc t) 0 t) (unit_rows octets (suc t) 0 (suc t))
+  cut =
+      ap (map (take (suc t))) (e ∙ ap (λ n. kernel_rows octets (windows s n 0 t) (unit_rows octets m 0 n)) (add-one t))
+      ∙ narrowed octets (suc t) m (windows s (suc t) 0 t) le (narrow_windows s (suc t) 0 t)
 
-    first : (l : List (List ℕ)) → 0 < length l → Each (λ v. Solves octets (suc t) (windows s (suc t) 0 t) v × Each Octet v) (map (take (suc t)) l)
-        → Locates s t (take (suc t) (get_or l 0 []))
-    first [] h good = absurd (omega arith)
-    first (v ∷ l) h good = located (take (suc t) v) good.0.0 good.0.1
+  -- a row is left
+  pub rows_left : 0 < length rows
+  rows_left =
+      let n = suc t in
+      let some : 0 < length (map (take (suc t)) rows) =
+      subst (λ l. 0 < length l) (sym cut) (octets_rows_left n (windows s n 0 t) (windows_octets s hs n 0 t) (omega (arith, length_windows s n 0 t))) in
+      omega (arith, length-map rows (take (suc t)))
 
-    go : (c : ℕ) → 0 < length (take c rows) → Each (λ v. Solves octets (suc t) (windows s (suc t) 0 t) v × Each Octet v) (map (take (suc t)) (take c rows))
-        → Locates s t (take (suc t) (get_or rows 0 []))
-    go zero h good = absurd (omega arith)
-    go (suc c) h good = subst (λ v. Locates s t (take (suc t) v)) (get_or-take (suc c) rows 0 [] (omega arith)) (first (take (suc c) rows) h good)
+  -- the first row that is left, cut to t + 1 coordinates, locates the wrong places
+  pub first_locates : Locates s t (take (t + 1) (get_or rows 0 []))
+  first_locates = subst (λ n. Locates s t (take n (get_or rows 0 []))) (sym (add-one t)) (first rows rows_left (subst (Each (λ v. Solves octets (suc t) (windows s (suc t) 0 t) v × Each Octet v)) (sym cut) (octets_rows_solve (suc t) (windows s (suc t) 0 t) (windows_octets s hs (suc t) 0 t))))
+    where
+      located : (v : List ℕ) → Solves octets (suc t) (windows s (suc t) 0 t) v → Each Octet v → Locates s t v
+      located v g hv = record {
+        long = g.long;
+        proper = hv;
+        some = g.some;
+        solves = λ k below. windows_slide octets s (suc t) t 0 v (omega (arith, g.long)) g.solves k (omega arith) (omega arith);
+      }
+
+      first : (l : List (List ℕ)) → 0 < length l → Each (λ v. Solves octets (suc t) (windows s (suc t) 0 t) v × Each Octet v) (map (take (suc t)) l)
+          → Locates s t (take (suc t) (get_or l 0 []))
+      first [] h good = absurd (omega arith)
+      first (v ∷ l) h good = located (take (suc t) v) good.0.0 good.0.1

@@ -1,13 +1,12 @@
 // The equations of the syndromes, solved by elimination over rows that start as the unit vectors.
 // The rows that are still in use stand first, and each has nine coordinates, of which t + 1 are in use.
-ghost use Rattle.std.specs.Prelude.{◌≡◌, ◌+◌, ◌-◌, ◌<◌, ◌≤◌, [], ◌++◌, length, take, drop, slice_index_or};
-ghost use Rattle.std.specs.List.{AllByRecursion as Each};
+ghost use Rattle.std.specs.Prelude.{◌≡◌, ◌+◌, ◌≤◌, take, not, ◌==◌, position};
 ghost use Rattle.elements.specs.Octets.{octets};
-ghost use Rattle.coding.specs.Sums.{Nonzero};
-ghost use Rattle.coding.specs.Kernel.{dot as dot_of, add_mul, clear_rows, eliminate_rows, kernel_rows};
+ghost use Rattle.coding.specs.Kernel.{dot as dot_of, add_mul, clear_rows, eliminate_rows, kernel_rows, unit_rows};
 ghost use Rattle.coding.specs.Decoder.{windows};
 ghost use Rattle.menders.specs.Locators.{entries, Locates};
 
+use arrayvec::ArrayVec;
 use elements::Element;
 
 const UNITS: [[u8; 9]; 9] = [
@@ -23,81 +22,65 @@ const UNITS: [[u8; 9]; 9] = [
 ];
 
 // What the equation comes to at the vector.
-pub(crate) fn dot(equation: &[u8], v: &[u8; 9]) -> u8
-    requires { length equation.now ≤ 9 }
+pub(crate) fn dot(equation: &[u8], v: &[u8]) -> u8
     ensures { result ≡ dot_of octets equation.now v.now }
 {
     let mut sum = 0u8;
-    for i in (0..equation.len()).rev() {
-        sum = v[i].mul(equation[i]).add(sum);
+    for (r, a) in equation.iter().zip(v) {
+        sum = sum.add(a.mul(*r));
     }
     sum
 }
 
-// The row plus c times the other.
-fn plus_multiple(row: &[u8; 9], c: u8, by: &[u8; 9]) -> [u8; 9]
-    ensures { result ≡ add_mul octets c row.now by.now }
+// Adds c times the other to the row.
+fn add_multiple(row: &mut [u8; 9], c: u8, by: &[u8; 9])
+    ensures { row.new ≡ add_mul octets c row.old by.now }
 {
-    let mut sum = *row;
-    for i in 0..9usize {
-        sum[i] = sum[i].add(c.mul(by[i]));
-    }
-    sum
-}
-
-// The first row that does not solve the equation, or the count where each does.
-fn first_unsolved(rows: &[[u8; 9]; 9], count: usize, equation: &[u8]) -> usize
-    requires { (count ≤ 9) × (length equation.now ≤ 9) }
-    ensures within { result ≤ count }
-    ensures solved { Each (λ v. dot_of octets equation.now v ≡ 0) (take result rows.now) }
-    ensures unsolved { result < count → Nonzero octets (dot_of octets equation.now (slice_index_or rows.now result [])) }
-{
-    for i in 0..count {
-        if dot(equation, &rows[i]) != 0 {
-            return i;
-        }
-    }
-    count
-}
-
-// Takes the row p out: clears the rows behind it by it, and moves each one place forward.
-fn clear_after(rows: &mut [[u8; 9]; 9], p: usize, count: usize, equation: &[u8])
-    requires { (p < count) × ((count ≤ 9) × (length equation.now ≤ 9)) }
-    ensures { take (count - 1) rows.new ≡ take p rows.old ++ clear_rows octets equation.now (slice_index_or rows.old p []) (drop (p + 1) (take count rows.old)) }
-{
-    let pivot = rows[p];
-    let unit = dot(equation, &pivot).inv();
-    for i in p + 1..count {
-        let c = dot(equation, &rows[i]).mul(unit);
-        rows[i - 1] = plus_multiple(&rows[i], c, &pivot);
+    for (i, a) in row.iter_mut().enumerate() {
+        *a = a.add(c.mul(by[i]));
     }
 }
 
-// Makes the rows solve one equation more, and answers how many are left.
-fn eliminate(rows: &mut [[u8; 9]; 9], count: usize, equation: &[u8]) -> usize
-    requires { (count ≤ 9) × (length equation.now ≤ 9) }
-    ensures fewer { result ≤ count }
-    ensures rows { take result rows.new ≡ eliminate_rows octets equation.now (take count rows.old) }
+// Takes out of each row so much of the pivot that it solves the equation.
+fn clear(rows: &mut [[u8; 9]], pivot: &[u8; 9], equation: &[u8])
+    ensures { rows.new ≡ clear_rows octets equation.now pivot.now rows.old }
 {
-    let p = first_unsolved(rows, count, equation);
-    if p == count {
-        return count;
+    let unit = dot(equation, pivot).inv();
+    for row in rows.iter_mut() {
+        let c = dot(equation, row).mul(unit);
+        add_multiple(row, c, pivot);
     }
-    clear_after(rows, p, count, equation);
-    count - 1
 }
 
-// Makes the first t + 1 rows solve the t equations of the syndromes, and answers how many are left.
-fn reduce(rows: &mut [[u8; 9]; 9], syndromes: &[u8; 16], t: usize) -> usize
+// The first row that does not solve the equation.
+fn first_unsolved(rows: &[[u8; 9]], equation: &[u8]) -> Option<usize>
+    ensures { result ≡ position (λ v. not (dot_of octets equation.now v == 0)) rows.now }
+{
+    rows.iter().position(|row| dot(equation, row) != 0)
+}
+
+// Makes the rows solve one equation more: the first that does not is taken out, and cleared from those behind it.
+fn eliminate(rows: &mut ArrayVec<[u8; 9], 9>, equation: &[u8])
+    ensures { rows.new.items ≡ eliminate_rows octets equation.now rows.old.items }
+{
+    let Some(p) = first_unsolved(rows, equation) else {
+        return;
+    };
+    let pivot = rows.remove(p);
+    clear(&mut rows[p..], &pivot, equation);
+}
+
+// The unit vectors, made to solve the t equations of the syndromes; t + 1 coordinates of each are in use.
+fn solutions(syndromes: &[u8; 16], t: usize) -> ArrayVec<[u8; 9], 9>
     requires { t ≤ 8 }
-    ensures fewer { result ≤ t + 1 }
-    ensures rows { take result rows.new ≡ kernel_rows octets (windows (entries syndromes.now) (t + 1) 0 t) (take (t + 1) rows.old) }
+    ensures { result.items ≡ kernel_rows octets (windows (entries syndromes.now) (t + 1) 0 t) (unit_rows octets 9 0 (t + 1)) }
 {
-    let mut count = t + 1;
+    let mut rows = ArrayVec::from(UNITS);
+    rows.truncate(t + 1);
     for k in 0..t {
-        count = eliminate(rows, count, &syndromes[k..k + t + 1]);
+        eliminate(&mut rows, &syndromes[k..k + t + 1]);
     }
-    count
+    rows
 }
 
 // A vector that locates the wrong places, if no more than t are wrong: its first t + 1 coordinates.
@@ -105,7 +88,5 @@ pub(crate) fn locator(syndromes: &[u8; 16], t: usize) -> [u8; 9]
     requires { t ≤ 8 }
     ensures { Locates (entries syndromes.now) t (take (t + 1) result) }
 {
-    let mut rows = UNITS;
-    let _ = reduce(&mut rows, syndromes, t);
-    rows[0]
+    solutions(syndromes, t)[0]
 }

@@ -4,8 +4,8 @@ ghost use Rattle.mending.specs.Menders.{Nearest, Written, answer};
 ghost use Rattle.menders.specs.Repairs.{Proposed};
 
 use crate::kernel::locator;
-use crate::syndrome::{powers, syndromes};
-use crate::values::{collect, find_roots};
+use crate::syndrome::{Powers, syndromes};
+use crate::values::Errors;
 use words::{Change, accept};
 
 // Writes the changes that a locating vector calls for, and answers how many.
@@ -15,13 +15,10 @@ fn candidates(word: &[u8], t: usize, out: &mut [Change; 16]) -> usize
     ensures changes { Proposed t word.now (take result out.new) }
     ensures rest { drop result out.new ≡ drop result out.old }
 {
-    let table = powers();
-    let sums = syndromes(word, &table);
-    let vector = locator(&sums, t);
-    let v = &vector[0..t + 1];
-    let mut found = [0u8; 8];
-    let count = find_roots(v, &table, word.len(), &mut found);
-    collect(&sums, v, &found[0..count], &table, word.len(), out)
+    let powers = Powers::new();
+    let syndromes = syndromes(word, &powers);
+    let vector = locator(&syndromes, t);
+    Errors::locate(&syndromes, &vector[..t + 1], &powers, word.len()).write(out)
 }
 
 // Looks for the codeword that differs from the word in 1 to t places: writes the difference to it, with blank changes behind, and answers how many changes it has.

@@ -6,47 +6,51 @@ ghost use Rattle.coding.specs.Decoder.{syndrome as syndrome_of};
 
 use elements::Element;
 
-// Alpha to the power of each place of the row.
-pub(crate) fn powers() -> [u8; 240]
-    ensures { (k : ℕ) → k < 240 → slice_index result k ≡ power k }
-{
-    let mut row = [1u8; 240];
-    for i in 1..240usize {
-        row[i] = row[i - 1].mul(2);
+// Alpha to the power of each place that a word can have.
+#[derive(Drop)]
+pub(crate) struct Powers {
+    row: [u8; 240],
+    ghost powers: { (k : ℕ) → k < 240 → slice_index row k ≡ power k },
+}
+
+impl Powers {
+    pub(crate) fn new() -> Self {
+        let mut row = [1u8; 240];
+        for i in 1..240usize {
+            row[i] = row[i - 1].mul(2);
+        }
+        Powers { row }
     }
-    row
+
+    pub(crate) fn at(&self, k: usize) -> u8
+        requires { k < 240 }
+        ensures { result ≡ power k }
+    {
+        self.row[k]
+    }
 }
 
 // The polynomial's value at x, the highest coefficient first.
 pub(crate) fn high_value(row: &[u8], x: u8) -> u8
     ensures { result ≡ horner octets 0 row.now x }
 {
-    let mut sum = 0u8;
-    for a in row {
-        sum = sum.mul(x).add(*a);
-    }
-    sum
+    row.iter().fold(0u8, |sum, a| sum.mul(x).add(*a))
 }
 
 // The polynomial's value at x, the lowest coefficient first.
 pub(crate) fn low_value(row: &[u8], x: u8) -> u8
     ensures { result ≡ eval_low octets row.now x }
 {
-    let mut sum = 0u8;
-    for i in (0..row.len()).rev() {
-        sum = row[i].add(x.mul(sum));
-    }
-    sum
+    row.iter().rev().fold(0u8, |sum, a| a.add(x.mul(sum)))
 }
 
 // The word's values at alpha^1 to alpha^16.
-pub(crate) fn syndromes(word: &[u8], powers: &[u8; 240]) -> [u8; 16]
-    requires { (k : ℕ) → k < 240 → slice_index powers.now k ≡ power k }
+pub(crate) fn syndromes(word: &[u8], powers: &Powers) -> [u8; 16]
     ensures { (k : ℕ) → k < 16 → slice_index result k ≡ syndrome_of octets power word.now k }
 {
     let mut row = [0u8; 16];
-    for k in 0..16usize {
-        row[k] = high_value(word, powers[k + 1]);
+    for (k, s) in row.iter_mut().enumerate() {
+        *s = high_value(word, powers.at(k + 1));
     }
     row
 }

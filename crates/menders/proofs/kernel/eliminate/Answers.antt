@@ -1,26 +1,12 @@
-use Rattle.std.proofs.Common.{◌≡◌, take, sym, subst, arith}
-use Rattle.std.specs.List.{AllByRecursion as Each}
-use Rattle.elements.specs.Octets.{octets}
-use Rattle.coding.specs.Kernel.{dot}
-use Rattle.coding.proofs.OctetDecoder.{octets_eliminate_none}
-use Rattle.menders.proofs.Elimination.{eliminate_row}
+use Rattle.std.proofs.Common.{sym}
+use Rattle.menders.proofs.Elimination.{all_solve, eliminated}
 use Rattle.menders.proofs.kernel.eliminate.Goals as goal
 
-pub returns-then-p-count : goal.returns-then-p-count
-returns-then-p-count c =
-    let r = c.args.equation.now in
-    let rows = c.args.rows.now in
-    record {
-      fewer = omega arith;
-      rows = sym (octets_eliminate_none r (take c.args.count rows)
-          (subst (λ n. Each (λ v. dot octets r v ≡ 0) (take n rows)) c.if-p-count.true c.first_unsolved-p.ensures.solved));
-    }
+pub returns-in_default : goal.returns-in_default
+returns-in_default c = sym (all_solve c.args.equation.now c.args.rows.now.items c.first_unsolved.result (cc) c.in_default.is)
 
 pub returns : goal.returns
 returns c =
-    let p = c.first_unsolved-p.result in
-    record {
-      fewer = omega arith;
-      rows = eliminate_row c.args.equation.now c.args.rows.now _ p c.args.count (omega arith) (omega arith)
-          c.first_unsolved-p.ensures.solved (c.first_unsolved-p.ensures.unsolved (omega arith)) c.clear_after.ensures;
-    }
+    rw (c.clear.ensures, c.deref_mut.ensures.value)
+    (eliminated c.args.equation.now c.args.rows.now.items c.remove-pivot.new.self.items c.first_unsolved.result c.in-Some.p c.remove-pivot.result
+    (cc) c.in-Some.is c.remove-pivot.ensures.items c.remove-pivot.ensures.value)

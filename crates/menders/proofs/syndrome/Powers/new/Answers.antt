@@ -2,7 +2,7 @@ use Rattle.std.proofs.Common.{◌≡◌, ◌-◌, get_or, refl, ap, ◌∙◌, a
 use Rattle.std.proofs.lemmas.List.Edits.{fill_by_more}
 use Rattle.elements.specs.Octets.{power, product}
 use Rattle.menders.proofs.RowSteps.{power_first, power_next}
-use Rattle.menders.proofs.syndrome.powers.Goals as goal
+use Rattle.menders.proofs.syndrome.Powers.new.Goals as goal
 
 pub loop-i-init : goal.loop-i-init
 loop-i-init c = (refl, power_first)
