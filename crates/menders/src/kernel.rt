@@ -9,6 +9,8 @@ ghost use Rattle.menders.specs.Locators.{entries, Locates};
 use arrayvec::ArrayVec;
 use elements::Element;
 
+type Rows = ArrayVec<[u8; 9], 9>;
+
 const UNITS: [[u8; 9]; 9] = [
     [1, 0, 0, 0, 0, 0, 0, 0, 0],
     [0, 1, 0, 0, 0, 0, 0, 0, 0],
@@ -60,7 +62,7 @@ fn first_unsolved(rows: &[[u8; 9]], equation: &[u8]) -> Option<usize>
 }
 
 // Makes the rows solve one equation more: the first that does not is taken out, and cleared from those behind it.
-fn eliminate(rows: &mut ArrayVec<[u8; 9], 9>, equation: &[u8])
+fn eliminate(rows: &mut Rows, equation: &[u8])
     ensures { rows.new.items ≡ eliminate_rows octets equation.now rows.old.items }
 {
     let Some(p) = first_unsolved(rows, equation) else {
@@ -71,7 +73,7 @@ fn eliminate(rows: &mut ArrayVec<[u8; 9], 9>, equation: &[u8])
 }
 
 // The unit vectors, made to solve the t equations of the syndromes; t + 1 coordinates of each are in use.
-fn solutions(syndromes: &[u8; 16], t: usize) -> ArrayVec<[u8; 9], 9>
+fn solutions(syndromes: &[u8; 16], t: usize) -> Rows
     requires { t ≤ 8 }
     ensures { result.items ≡ kernel_rows octets (windows (entries syndromes.now) (t + 1) 0 t) (unit_rows octets 9 0 (t + 1)) }
 {

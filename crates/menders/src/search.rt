@@ -33,7 +33,7 @@ pub(crate) fn nearest(word: &[u8], t: usize, out: &mut [Change; 16]) -> Option<u
         return None;
     }
     let count = candidates(word, t, out);
-    if count <= t && accept(word, &out[0..count]).is_ok() {
+    if count <= t && accept(word, &out[..count]).is_ok() {
         return Some(count);
     }
     *out = [Change::BLANK; 16];

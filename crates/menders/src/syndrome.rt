@@ -15,9 +15,11 @@ pub(crate) struct Powers {
 
 impl Powers {
     pub(crate) fn new() -> Self {
-        let mut row = [1u8; 240];
-        for i in 1..240usize {
-            row[i] = row[i - 1].mul(2);
+        let mut row = [0u8; 240];
+        let mut next = 1u8;
+        for a in row.iter_mut() {
+            *a = next;
+            next = next.mul(2);
         }
         Powers { row }
     }

@@ -12,17 +12,17 @@ use arrayvec::ArrayVec;
 use elements::Element;
 use words::Change;
 
-// What is wrong in a word of `long` octets: its syndromes, a vector that locates the wrong places, and the locators that were found.
+// What is wrong in a word of `len` octets: its syndromes, a vector that locates the wrong places, and the locators that were found.
 #[derive(Drop)]
 pub(crate) struct Errors<'a> {
     syndromes: &'a [u8; 16],
     vector: &'a [u8],
     powers: &'a Powers,
-    long: usize,
+    len: usize,
     found: ArrayVec<u8, 8>,
-    ghost short: { long ≤ 240 },
+    ghost short: { len ≤ 240 },
     ghost few: { length found.items ≤ 8 },
-    ghost all: { found.items ≡ roots octets power vector.now long },
+    ghost all: { found.items ≡ roots octets power vector.now len },
 }
 
 // Those of the first n powers of alpha at which the vector vanishes, the highest first.
@@ -68,20 +68,20 @@ impl<'a> Errors<'a> {
         syndromes: &'a [u8; 16],
         vector: &'a [u8],
         powers: &'a Powers,
-        long: usize,
+        len: usize,
     ) -> Self
-        requires short { long ≤ 240 }
-        requires few { length (roots octets power vector.now long) ≤ 8 }
+        requires short { len ≤ 240 }
+        requires few { length (roots octets power vector.now len) ≤ 8 }
         ensures syndromes { result.syndromes.now ≡ syndromes.now }
         ensures vector { result.vector.now ≡ vector.now }
-        ensures long { result.long ≡ long }
+        ensures len { result.len ≡ len }
     {
         Errors {
             syndromes,
             vector,
             powers,
-            long,
-            found: find_roots(vector, powers, long),
+            len,
+            found: find_roots(vector, powers, len),
         }
     }
 
@@ -124,15 +124,15 @@ impl<'a> Errors<'a> {
     pub(crate) fn write(&self, out: &mut [Change; 16]) -> usize
         ensures few { result ≤ 16 }
         ensures changes { let e = self.now in take result out.new
-            ≡ repairs (correction_of octets (entries e.syndromes.now) e.vector.now (roots octets power e.vector.now e.long)) e.long e.long }
+            ≡ repairs (correction_of octets (entries e.syndromes.now) e.vector.now (roots octets power e.vector.now e.len)) e.len e.len }
         ensures rest { drop result out.new ≡ drop result out.old }
     {
         let mut count = 0;
-        for k in (0..self.long).rev() {
+        for k in (0..self.len).rev() {
             let octet = self.correction(self.powers.at(k));
             if octet != 0 {
                 out[count] = Change {
-                    place: self.long - 1 - k,
+                    place: self.len - 1 - k,
                     octet,
                 };
                 count += 1;

@@ -31,6 +31,6 @@ returns-clause-changes c =
     record {
       vector = v;
       locates = locates_same s σ agree t v c.requires.1 l;
-      changes = rw (c.locate.ensures.syndromes, c.locate.ensures.vector, c.locate.ensures.long) at c.write.ensures.changes
+      changes = rw (c.locate.ensures.syndromes, c.locate.ensures.vector, c.locate.ensures.len) at c.write.ensures.changes
           ∙ repairs_same (correction octets s v ys) (correction octets σ v ys) n n (correction_same s σ agree v ys (omega arith));
     }

@@ -1,4 +1,4 @@
-use Rattle.std.proofs.Common.{◌≡◌, ◌-◌, true, take, is_ok, sym, refl, ap, ◌∙◌, arith}
+use Rattle.std.proofs.Common.{◌≡◌, true, take, is_ok, sym, refl, ap, ◌∙◌, arith}
 use Rattle.std.proofs.lemmas.List.{drop-replicate, length-take-le}
 use Rattle.std.proofs.ByRecursion.{All-from_get_or}
 use Rattle.std.proofs.lemmas.Bool.{both_ways}
@@ -14,9 +14,8 @@ returns-then-is_ok c =
     let w = c.args.word.now in
     let n = c.candidates-count.result in
     let out = c.candidates-count.new.out in
-    let all : c.candidates-count.result - 0 ≡ c.candidates-count.result = omega arith in
     let good : sound (fault_of w (take n out)) ≡ true =
-    ap (λ k. sound (fault_of w (take k out))) (sym all) ∙ sym (ok_sound (fault_of w (take (n - 0) out))) ∙ sym (ap is_ok c.accept.ensures)
+    sym (ok_sound (fault_of w (take n out))) ∙ sym (ap is_ok c.accept.ensures)
     ∙ sym c.is_ok.ensures.value ∙ c.if-is_ok.true in
     record {
       nearest = proposed_found c.args.t w (take n out) c.candidates-count.ensures.changes (All-from_get_or Octet w 0 (λ i _. (c.type_inv.word i).fits))
@@ -31,11 +30,10 @@ returns c =
     let out = c.candidates-count.new.out in
     let P = c.candidates-count.ensures.changes in
     let H = All-from_get_or Octet w 0 (λ i _. (c.type_inv.word i).fits) in
-    let all : c.candidates-count.result - 0 ≡ c.candidates-count.result = omega arith in
     record {
       nearest = λ d code long some near. elim c.else-count-t.branch [
         | else-count-t-via-then-count-t+else-is_ok v ↦ both_ways v.is_ok.result v.if-is_ok.false
-            (v.is_ok.ensures.value ∙ ap is_ok v.accept.ensures ∙ ok_sound (fault_of w (take (n - 0) out)) ∙ ap (λ k. sound (fault_of w (take k out))) all
+            (v.is_ok.ensures.value ∙ ap is_ok v.accept.ensures ∙ ok_sound (fault_of w (take n out))
             ∙ proposed_accepted c.args.t w (take n out) P H c.requires d code long some near)
         | else-count-t-via-else-count-t v ↦ omega (
           arith,

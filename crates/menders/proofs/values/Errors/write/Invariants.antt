@@ -9,4 +9,4 @@ abbrev pub invariant-loop-k : goal.invariant-loop-k
 invariant-loop-k l =
     let f = correction octets (entries l.self.syndromes.now) l.self.vector.now l.self.found.items in
     (length l.out ≡ 16) × (l.count ≤ 16) × (drop l.count l.out ≡ drop l.count l.initial.out)
-    × (take l.count l.out ++ repairs f l.self.long l.k ≡ repairs f l.self.long l.self.long)
+    × (take l.count l.out ++ repairs f l.self.len l.k ≡ repairs f l.self.len l.self.len)
