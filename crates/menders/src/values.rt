@@ -109,11 +109,13 @@ impl<'a> Errors<'a> {
         dot(syndromes, &product).mul(y.mul(value).inv())
     }
 
-    // The same where the vector vanishes at y, and elsewhere nothing.
-    fn correction(&self, y: u8) -> u8
-        ensures { result ≡ correction_of octets (entries self.now.syndromes.now) self.now.vector.now self.now.found.items y }
+    // What is wrong k places before the word's end.
+    fn correction(&self, k: usize) -> u8
+        requires { k < self.now.len }
+        ensures { result ≡ correction_of octets (entries self.now.syndromes.now) self.now.vector.now self.now.found.items (power k) }
     {
-        if low_value(self.vector, y) == 0 {
+        let y = self.powers.at(k);
+        if self.found.contains(&y) {
             self.magnitude(y)
         } else {
             0
@@ -129,7 +131,7 @@ impl<'a> Errors<'a> {
     {
         let mut count = 0;
         for k in (0..self.len).rev() {
-            let octet = self.correction(self.powers.at(k));
+            let octet = self.correction(k);
             if octet != 0 {
                 out[count] = Change {
                     place: self.len - 1 - k,

@@ -13,7 +13,7 @@ bounds-out-count c =
     let s = entries e.syndromes.now in
     let f = correction octets s e.vector.now e.found.items in
     let few : length (repairs f e.len e.len) ≤ 16 = omega (arith, repairs_few s e.vector.now e.found.items e.len e.len, e.few, ap length e.all) in
-    room f e.len c.loop-k.k _ c.correction-octet.result c.loop-k-test.true c.at.ensures c.correction-octet.ensures c.loop-k.out c.args.out.now c.loop-k.count c.loop-k.invariant c.if-octet-ne0.true few
+    room f e.len c.loop-k.k c.correction-octet.result c.loop-k-test.true c.correction-octet.ensures c.loop-k.out c.args.out.now c.loop-k.count c.loop-k.invariant c.if-octet-ne0.true few
 
 pub loop-k-preserved-then-octet-ne0 : goal.loop-k-preserved-then-octet-ne0
 loop-k-preserved-then-octet-ne0 c =
@@ -21,11 +21,11 @@ loop-k-preserved-then-octet-ne0 c =
     let s = entries e.syndromes.now in
     let f = correction octets s e.vector.now e.found.items in
     let few : length (repairs f e.len e.len) ≤ 16 = omega (arith, repairs_few s e.vector.now e.found.items e.len e.len, e.few, ap length e.all) in
-    written f e.len c.loop-k.k _ c.correction-octet.result c.loop-k-test.true c.at.ensures c.correction-octet.ensures c.loop-k.out c.args.out.now c.loop-k.count c.loop-k.invariant c.if-octet-ne0.true few
+    written f e.len c.loop-k.k c.correction-octet.result c.loop-k-test.true c.correction-octet.ensures c.loop-k.out c.args.out.now c.loop-k.count c.loop-k.invariant c.if-octet-ne0.true few
 
 pub loop-k-preserved : goal.loop-k-preserved
 loop-k-preserved c =
     let e = c.args.self.now in
     let s = entries e.syndromes.now in
     let f = correction octets s e.vector.now e.found.items in
-    passed_over f e.len c.loop-k.k _ c.correction-octet.result c.loop-k-test.true c.at.ensures c.correction-octet.ensures c.loop-k.out c.args.out.now c.loop-k.count c.loop-k.invariant c.if-octet-ne0.false
+    passed_over f e.len c.loop-k.k c.correction-octet.result c.loop-k-test.true c.correction-octet.ensures c.loop-k.out c.args.out.now c.loop-k.count c.loop-k.invariant c.if-octet-ne0.false
