@@ -32,9 +32,9 @@ found_vanishes v y (suc n) h =
     let any = λ (l : List ℕ). list_any (λ z. eqb z y) l in
     (elim (eqb (eval_low octets v (power n)) 0) as (λ t. eqb (eval_low octets v (power n)) 0 ≡ t → any (cond t (power n ∷ R) R) ≡ true → eval_low octets v y ≡ 0) [
       | true ↦ λ z g. (elim (eqb (power n) y) as (λ b. eqb (power n) y ≡ b → (b || any R) ≡ true → eval_low octets v y ≡ 0) [
-          | true ↦ λ e _. ap (eval_low octets v) (sym (eqb-true (power n) y e)) ∙ eqb-true _ _ z
-          | false ↦ λ e f. found_vanishes v y n f
-        ]) refl g
+        | true ↦ λ e _. ap (eval_low octets v) (sym (eqb-true (power n) y e)) ∙ eqb-true _ _ z
+        | false ↦ λ e f. found_vanishes v y n f
+      ]) refl g
       | false ↦ λ z g. found_vanishes v y n g
     ]) refl h
 

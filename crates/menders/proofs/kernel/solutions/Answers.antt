@@ -24,4 +24,4 @@ returns c =
     let none : c.args.t - c.loop-k.k ≡ 0 = omega arith in
     sym (ap (λ m. kernel_rows octets (windows s (t + 1) c.loop-k.k m) c.loop-k.rows.items) none) ∙ c.loop-k.invariant
     ∙ ap (kernel_rows octets (windows s (t + 1) 0 t))
-        (c.truncate.ensures.items ∙ ap (take (t + 1)) c.from-rows.ensures.0 ∙ take_units octets 9 9 0 (t + 1) (omega arith))
+    (c.truncate.ensures.items ∙ ap (take (t + 1)) c.from-rows.ensures.0 ∙ take_units octets 9 9 0 (t + 1) (omega arith))
