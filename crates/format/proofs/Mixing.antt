@@ -23,14 +23,6 @@ pub mixed_all : (r i : ℕ) (os : List ℕ) → length os ≤ i → take i os ++
 unfolding mixed
 mixed_all r i os h = ap (λ l. take i os ++ mixed r l) (drop_all i os h) ∙ ap (λ l. take i os ++ l) (sym (drop_all i os h)) ∙ take-append-drop i os
 
--- eight bits more of a run of 8 n
-pub after_octet : (n i r s end : ℕ) → i < n → s ≡ after 8 r → after (8 * (n - i)) r ≡ end → after (8 * (n - (i + 1))) s ≡ end
-after_octet n i r s end h es e =
-    let split : 8 * (n - i) ≡ 8 + 8 * (n - (i + 1)) = omega arith in
-    ap (after (8 * (n - (i + 1)))) es ∙ sym (after_add 8 (8 * (n - (i + 1))) r) ∙ sym (ap (λ m. after m r) split) ∙ e
-
-pub after_octets : (n i r end : ℕ) → n ≤ i → after (8 * (n - i)) r ≡ end → r ≡ end
-unfolding after
-after_octets n i r end h e =
-    let none : 8 * (n - i) ≡ 0 = omega arith in
-    sym (ap (λ m. after m r) none) ∙ e
+-- the register behind one octet more
+pub after_octet : (i r : ℕ) → after (8 * (i + 1)) r ≡ after 8 (after (8 * i) r)
+after_octet i r = ap (λ n. after n r) (let e : 8 * (i + 1) ≡ 8 * i + 8 = omega arith in e) ∙ after_add (8 * i) 8 r

@@ -1,5 +1,5 @@
 -- The register's steps, as shifts and masks.
-use Rattle.std.proofs.Common.{◌≡◌, ℕ, suc, ◌+◌, ◌-◌, ◌*◌, ◌/◌, ◌%◌, ◌^◌, ◌<◌, ◌≤◌, sym, ap, ◌∙◌, ap₂, mul_assoc, mul-add, arith}
+use Rattle.std.proofs.Common.{◌≡◌, ℕ, zero, suc, ◌+◌, ◌-◌, ◌*◌, ◌/◌, ◌%◌, ◌^◌, ◌<◌, ◌≤◌, sym, refl, ap, ◌∙◌, ap₂, mul_assoc, mul-add, mul_comm, pow-suc, suc-add, arith}
 use lib.Bits.{bit_and, bit_or, bit_xor, xor_add_and, or_shifted_r}
 use Rattle.std.proofs.lemmas.Nat.{and_mask, or_shifted, shl_whole, pow-add, mul-le}
 use Rattle.format.specs.Sequences.{value, next, advanced, after, drawn}
@@ -35,30 +35,30 @@ gather_more k o b v whole h low one all =
       ap₂ (λ m p. m + p * v) made twice ∙ omega (arith, mul-add (2 ^ k) b (2 * v), mul_assoc (2 ^ k) 2 v) ∙ all,
     )
 
-pub octet_more : (k o r b whole : ℕ) → k < 8 → o < 2 ^ k → b ≡ next r → o + 2 ^ k * value (drawn (8 - k) r) ≡ whole
-    → (bit_or o (b * 2 ^ k % 2 ^ 8) < 2 ^ (k + 1)) × (bit_or o (b * 2 ^ k % 2 ^ 8) + 2 ^ (k + 1) * value (drawn (8 - (k + 1)) (advanced r)) ≡ whole)
+-- a number gathered from bits stays below the next bit's place
+drawn_below : (n r : ℕ) → value (drawn n r) < 2 ^ n
 unfolding drawn
-octet_more k o r b whole h low e all =
-    let steps : 8 - k ≡ suc (8 - (k + 1)) = omega arith in
-    let v = value (drawn (8 - (k + 1)) (advanced r)) in
-    let split : value (drawn (8 - k) r) ≡ b + 2 * v = ap (λ n. value (drawn n r)) steps ∙ ap (λ n. n + 2 * v) (sym e) in
-    gather_more k o b v whole h low (omega (arith, e, next_below r)) (ap (λ n. o + 2 ^ k * n) (sym split) ∙ all)
+drawn_below zero r = omega arith
+drawn_below (suc n) r = omega (arith, next_below r, drawn_below n (advanced r), pow-suc 2 n)
 
-pub octet_done : (k o r whole : ℕ) → 8 ≤ k → o + 2 ^ k * value (drawn (8 - k) r) ≡ whole → o ≡ whole
-unfolding drawn
-octet_done k o r whole h all =
-    let none : 8 - k ≡ 0 = omega arith in
-    omega (arith, all, ap (λ n. 2 ^ k * value (drawn n r)) none)
+drawn_more : (n r : ℕ) → value (drawn (n + 1) r) ≡ value (drawn n r) + 2 ^ n * next (after n r)
+unfolding drawn after
+drawn_more zero r = omega arith
+drawn_more (suc n) r =
+    let rest = drawn_more n (advanced r) in
+    let b = next (after n (advanced r)) in
+    ap (λ k. value (drawn k r)) (suc-add n 1) ∙ omega (arith, rest, ap (λ p. p * b) (pow-suc 2 n), mul_assoc 2 (2 ^ n) b)
 
--- one bit more of a run of n
-pub after_more : (n i r end : ℕ) → i < n → after (n - i) r ≡ end → after (n - (i + 1)) (advanced r) ≡ end
+-- one bit more of an octet
+pub octet_step : (k r : ℕ) → k < 8 → bit_or (value (drawn k r)) (next (after k r) * 2 ^ k % 2 ^ 8) ≡ value (drawn (k + 1) r)
+octet_step k r h =
+    let o = value (drawn k r) in
+    let b = next (after k r) in
+    ap (bit_or o) (shl_whole b 1 k 8 (next_below (after k r)) (omega arith)) ∙ or_shifted_r b k o (drawn_below k r)
+    ∙ omega (arith, drawn_more k r, mul_comm b (2 ^ k))
+
+-- the register after one bit more
+pub after_step : (n r : ℕ) → after (n + 1) r ≡ advanced (after n r)
 unfolding after
-after_more n i r end h e =
-    let steps : n - i ≡ suc (n - (i + 1)) = omega arith in
-    sym (ap (λ m. after m r) steps) ∙ e
-
-pub after_done : (n i r end : ℕ) → n ≤ i → after (n - i) r ≡ end → r ≡ end
-unfolding after
-after_done n i r end h e =
-    let none : n - i ≡ 0 = omega arith in
-    sym (ap (λ m. after m r) none) ∙ e
+after_step zero r = refl
+after_step (suc n) r = ap (λ k. after k r) (suc-add n 1) ∙ after_step n (advanced r)

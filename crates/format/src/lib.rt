@@ -24,4 +24,4 @@ pub use laws::fitting_reach;
 pub use mode::Mode;
 pub use phy::Phy;
 pub use sequence::{Register, mix};
-pub use sizes::{block_count, frame_length, word_count};
+pub use sizes::{block_count, frame_length, payload_place, word_count};

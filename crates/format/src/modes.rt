@@ -1,26 +1,33 @@
 // What each mode is.
 ghost use Rattle.std.specs.Prelude.{◌≡◌};
+ghost use Rattle.std.specs.Option.{ok_or};
+ghost use Rattle.format.specs.declared.fault.DoorFault.TheVariants.{Mode as NoMode};
 ghost use Rattle.format.specs.Modes.{row, mode_of, mode_by};
 
+use crate::fault::DoorFault;
 use crate::mode::Mode;
 
-impl Mode {
-    // The mode of a number, 1 to 7.
-    pub fn from_number(number: u8) -> Option<Mode>
-        ensures { result ≡ mode_of number }
-    {
+// The mode of a number, 1 to 7.
+impl TryFrom<u8> for Mode {
+    type Error = DoorFault;
+
+    ghost try_from_gives = { λ number r. r ≡ ok_or (mode_of number) NoMode };
+
+    fn try_from(number: u8) -> Result<Mode, DoorFault> {
         match number {
-            1 => Some(Mode::M1),
-            2 => Some(Mode::M2),
-            3 => Some(Mode::M3),
-            4 => Some(Mode::M4),
-            5 => Some(Mode::M5),
-            6 => Some(Mode::M6),
-            7 => Some(Mode::M7),
-            _ => None,
+            1 => Ok(Mode::M1),
+            2 => Ok(Mode::M2),
+            3 => Ok(Mode::M3),
+            4 => Ok(Mode::M4),
+            5 => Ok(Mode::M5),
+            6 => Ok(Mode::M6),
+            7 => Ok(Mode::M7),
+            _ => Err(DoorFault::Mode),
         }
     }
+}
 
+impl Mode {
     // The mode that the signs of SFD2 to SFD4 tell; true is minus.
     pub fn from_signs(second: bool, third: bool, fourth: bool) -> Option<Mode>
         ensures { result ≡ mode_by second third fourth }

@@ -42,6 +42,7 @@ impl Register {
     }
 
     // The next eight bits, the first one lowest.
+    #[tactic(auto, using(crate::proofs::Registers::octet_step, crate::proofs::Registers::after_step), unfolding(crate::specs::Sequences::after, crate::specs::Sequences::drawn, crate::specs::Sequences::key))]
     pub fn octet(&mut self) -> u8
         ensures octet { result ≡ key self.old.bits }
         ensures bits { self.new.bits ≡ after 8 self.old.bits }
@@ -54,10 +55,11 @@ impl Register {
     }
 
     // The register after n bits more.
+    #[tactic(auto, using(crate::proofs::Registers::after_step), unfolding(crate::specs::Sequences::after))]
     pub fn skip(mut self, n: u8) -> Register
         ensures { result.bits ≡ after n self.bits }
     {
-        for _i in 0..n {
+        for _ in 0..n {
             self.next();
         }
         self
@@ -65,13 +67,12 @@ impl Register {
 }
 
 // Adds the sequence to the octets, and answers the register behind the last.
-pub fn mix(octets: &mut [u8], register: Register) -> Register
+pub fn mix(octets: &mut [u8], mut register: Register) -> Register
     ensures octets { octets.new ≡ mixed register.bits octets.old }
     ensures bits { result.bits ≡ after (8 * length octets.old) register.bits }
 {
-    let mut running = register;
-    for i in 0..octets.len() {
-        octets[i] ^= running.octet();
+    for o in octets.iter_mut() {
+        *o ^= register.octet();
     }
-    running
+    register
 }

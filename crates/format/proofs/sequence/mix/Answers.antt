@@ -1,18 +1,25 @@
-use Rattle.std.proofs.Common.{length, sym, ◌∙◌, arith}
-use Rattle.format.proofs.Mixing.{mixed_more, mixed_all, after_octet, after_octets}
+use Rattle.std.proofs.Common.{◌≡◌, length, sym, ◌∙◌, arith}
+use Rattle.format.specs.Sequences.{after}
+use Rattle.format.proofs.Mixing.{mixed_more, mixed_all, after_octet}
 use Rattle.format.proofs.sequence.mix.Goals as goal
 
-pub loop-i-preserved : goal.loop-i-preserved
-loop-i-preserved c =
-    let r = c.loop-i.running.bits in (
-      mixed_more r c.loop-i.octets c.loop-i.i c.octet.result c.octet.new.self.bits (omega arith) c.octet.ensures.octet c.octet.ensures.bits ∙ c.loop-i.invariant.0,
-      after_octet (length c.args.octets.now) c.loop-i.i r _ _ (omega arith) c.octet.ensures.bits c.loop-i.invariant.1,
+pub loop-o-init : goal.loop-o-init
+unfolding after
+loop-o-init c = grind arith
+
+pub loop-o-preserved : goal.loop-o-preserved
+loop-o-preserved c =
+    let r = c.loop-o.register.bits in
+    let next = after_octet c.loop-o.o-index c.args.register.bits in (
+      mixed_more r c.loop-o.octets c.loop-o.o-index c.octet.result c.octet.new.self.bits (omega arith) c.octet.ensures.octet c.octet.ensures.bits ∙ c.loop-o.invariant.0,
+      cc,
     )
 
 pub returns : goal.returns
 returns c =
-    let r = c.loop-i.running.bits in
+    let r = c.loop-o.register.bits in
+    let all : c.loop-o.o-index ≡ length c.args.octets.now = omega arith in
     record {
-      octets = sym (mixed_all r c.loop-i.i c.loop-i.octets (omega arith)) ∙ c.loop-i.invariant.0;
-      bits = after_octets (length c.args.octets.now) c.loop-i.i r _ (omega arith) c.loop-i.invariant.1;
+      octets = sym (mixed_all r c.loop-o.o-index c.loop-o.octets (omega arith)) ∙ c.loop-o.invariant.0;
+      bits = rw (← all) c.loop-o.invariant.1;
     }

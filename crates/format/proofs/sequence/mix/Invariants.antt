@@ -1,8 +1,8 @@
-use Rattle.std.proofs.Common.{◌≡◌, ◌-◌, ◌*◌, ◌++◌, length, take, drop}
+use Rattle.std.proofs.Common.{◌≡◌, ◌*◌, ◌++◌, take, drop}
 use Rattle.format.specs.Sequences.{after, mixed}
 use Rattle.format.proofs.sequence.mix.Given as goal
 
-abbrev pub invariant-loop-i : goal.invariant-loop-i
-invariant-loop-i l =
-    (take l.i l.octets ++ mixed l.running.bits (drop l.i l.octets) ≡ mixed l.initial.running.bits l.initial.octets)
-    × (after (8 * (length l.initial.octets - l.i)) l.running.bits ≡ after (8 * length l.initial.octets) l.initial.running.bits)
+abbrev pub invariant-loop-o : goal.invariant-loop-o
+invariant-loop-o l =
+    (take l.o-index l.octets ++ mixed l.register.bits (drop l.o-index l.octets) ≡ mixed l.initial.register.bits l.initial.octets)
+    × (l.register.bits ≡ after (8 * l.o-index) l.initial.register.bits)

@@ -1,9 +1,6 @@
-use Rattle.std.proofs.Common.{◌≡◌, ◌+◌, ◌-◌, ◌*◌, ◌^◌, ◌<◌}
-use Rattle.format.specs.Sequences.{value, drawn, after, key}
+use Rattle.std.proofs.Common.{◌≡◌}
+use Rattle.format.specs.Sequences.{value, drawn, after}
 use Rattle.format.proofs.sequence.Register.octet.Given as goal
 
 abbrev pub invariant-loop-k : goal.invariant-loop-k
-invariant-loop-k l =
-    (l.octet < 2 ^ l.k)
-    × (l.octet + 2 ^ l.k * value (drawn (8 - l.k) l.self.bits) ≡ key l.initial.self.bits)
-    × (after (8 - l.k) l.self.bits ≡ after 8 l.initial.self.bits)
+invariant-loop-k l = (l.octet ≡ value (drawn l.k l.initial.self.bits)) × (l.self.bits ≡ after l.k l.initial.self.bits)
