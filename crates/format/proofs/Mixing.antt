@@ -11,13 +11,10 @@ after_add zero n r = ap (λ k. after k r) (zero-add n)
 after_add (suc m) n r = ap (λ k. after k r) (suc-add m n) ∙ after_add m n (advanced r)
 
 -- one octet more, mixed in place
-pub mixed_more : (r : ℕ) (os : List ℕ) (i k s : ℕ) → i < length os → k ≡ key r → s ≡ after 8 r
-    → take (i + 1) (set os i (bit_xor (get_or os i 0) k)) ++ mixed s (drop (i + 1) (set os i (bit_xor (get_or os i 0) k))) ≡ take i os ++ mixed r (drop i os)
+pub mixed_more : (r : ℕ) (os : List ℕ) (i : ℕ) → i < length os
+    → take (i + 1) (set os i (bit_xor (get_or os i 0) (key r))) ++ mixed (after 8 r) (drop (i + 1) (set os i (bit_xor (get_or os i 0) (key r)))) ≡ take i os ++ mixed r (drop i os)
 unfolding mixed
-mixed_more r os i k s h ek es =
-    write_next os i (bit_xor (get_or os i 0) k) (mixed s) h
-    ∙ ap₂ (λ a t. take i os ++ (bit_xor (get_or os i 0) a ∷ mixed t (drop (i + 1) os))) ek es
-    ∙ sym (ap (λ l. take i os ++ mixed r l) (drop_more os i 0 h))
+mixed_more r os i h = write_next os i (bit_xor (get_or os i 0) (key r)) (mixed (after 8 r)) h ∙ sym (ap (λ l. take i os ++ mixed r l) (drop_more os i 0 h))
 
 pub mixed_all : (r i : ℕ) (os : List ℕ) → length os ≤ i → take i os ++ mixed r (drop i os) ≡ os
 unfolding mixed

@@ -67,6 +67,7 @@ impl Register {
 }
 
 // Adds the sequence to the octets, and answers the register behind the last.
+#[tactic(auto, using(crate::proofs::Mixing::mixed_more, crate::proofs::Mixing::mixed_all, crate::proofs::Mixing::after_octet), unfolding(crate::specs::Sequences::after))]
 pub fn mix(octets: &mut [u8], mut register: Register) -> Register
     ensures octets { octets.new ≡ mixed register.bits octets.old }
     ensures bits { result.bits ≡ after (8 * length octets.old) register.bits }
