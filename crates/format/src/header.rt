@@ -5,6 +5,7 @@ ghost use Rattle.format.specs.Header.{phy_octets, joined, unpacked};
 use crate::phy::Phy;
 
 // The fields as 32 bits: 4 of the seed, 1 of the aggregation, 23 of the frame length, 4 reserved.
+#[tactic(auto, using(crate::proofs::HeaderBits::packed_code, crate::proofs::HeaderBits::octets_code), unfolding(crate::specs::Header::phy_octets))]
 pub fn pack(h: Phy) -> [u8; 4]
     ensures { result ≡ phy_octets h }
 {

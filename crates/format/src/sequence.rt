@@ -11,6 +11,7 @@ pub struct Register {
 
 impl Register {
     // The scrambler's register before its first bit; only the seed's four low bits count.
+    #[tactic(auto, unfolding(crate::specs::Sequences::scrambler))]
     pub fn scrambler(seed: u8) -> Register
         ensures { result.bits ≡ scrambler seed }
     {
@@ -25,6 +26,7 @@ impl Register {
     }
 
     // The spreader's register before its first bit.
+    #[tactic(auto, unfolding(crate::specs::Sequences::spreader))]
     pub fn spreader() -> Register
         ensures { result.bits ≡ spreader }
     {
@@ -32,6 +34,7 @@ impl Register {
     }
 
     // The next bit of the sequence.
+    #[tactic(auto, using(crate::proofs::Registers::next_code, crate::proofs::Registers::advanced_code))]
     pub fn next(&mut self) -> u8
         ensures bit { result ≡ next_bit self.old.bits }
         ensures bits { self.new.bits ≡ advanced self.old.bits }
