@@ -13,21 +13,14 @@ pub fn pack(h: Phy) -> [u8; 4]
         | (h.aggregation as u32) << 4
         | (h.length & 0x7f_ffff) << 5
         | ((h.reserved & 15) as u32) << 28;
-    [
-        (word & 255) as u8,
-        (word >> 8 & 255) as u8,
-        (word >> 16 & 255) as u8,
-        (word >> 24 & 255) as u8,
-    ]
+    word.to_le_bytes()
 }
 
+#[tactic(auto, using(crate::proofs::HeaderBits::joined_code, crate::proofs::HeaderBits::unpacked_code))]
 pub fn unpack(octets: &[u8; 4]) -> Phy
     ensures { result ≡ unpacked (joined octets.now) }
 {
-    let word = octets[0] as u32
-        | (octets[1] as u32) << 8
-        | (octets[2] as u32) << 16
-        | (octets[3] as u32) << 24;
+    let word = u32::from_le_bytes(*octets);
     Phy {
         seed: (word & 15) as u8,
         aggregation: word >> 4 & 1 == 1,
