@@ -3,7 +3,7 @@ ghost use Rattle.std.specs.Prelude.{◌≡◌, ℕ, ◌*◌, ◌^◌, ◌<◌, L
 ghost use Rattle.format.specs.Sequences.{next as next_bit, advanced, after, key, mixed, scrambler, spreader};
 
 // The register of a sequence: bit k of it is the bit that came k + 1 places ago.
-#[derive(Clone, Copy)]
+#[derive(Clone, Copy, PartialEq, Eq, Debug)]
 pub struct Register {
     bits: u16,
     ghost ok: { bits < 2 ^ 15 },

@@ -1,2 +1,3 @@
+pub mod BadChips
 pub mod Blocks
-pub mod Clamps
+pub mod Cuts

@@ -6,10 +6,5 @@ ghost use Rattle.windows.specs.Parts.{first_bad};
 pub fn first_bad_chip(chips: &[u8]) -> Option<usize>
     ensures { result ≡ first_bad chips.now }
 {
-    for (i, c) in chips.iter().enumerate() {
-        if *c > 1 {
-            return Some(i);
-        }
-    }
-    None
+    chips.iter().position(|c| *c > 1)
 }

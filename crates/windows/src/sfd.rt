@@ -18,17 +18,10 @@ fn near(chips: &[u8], code: Code) -> bool
 pub fn read_code(chips: &[u8]) -> Option<Code>
     ensures { result ≡ read_code chips.now }
 {
-    if near(chips, Code::A) {
-        Some(Code::A)
-    } else if near(chips, Code::MinusA) {
-        Some(Code::MinusA)
-    } else if near(chips, Code::B) {
-        Some(Code::B)
-    } else if near(chips, Code::MinusB) {
-        Some(Code::MinusB)
-    } else {
-        None
-    }
+    [Code::A, Code::MinusA, Code::B, Code::MinusB]
+        .iter()
+        .copied()
+        .find(|code| near(chips, *code))
 }
 
 // Code k, from 0, of the first SFD group of n channels.

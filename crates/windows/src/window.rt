@@ -1,10 +1,10 @@
 // A window of chips, lent from where a frame begins, and parts of it with their place.
-ghost use Rattle.std.specs.Prelude.{◌≡◌, false, length, Some, None, MatchOption, MatchResult};
+ghost use Rattle.std.specs.Prelude.{◌≡◌, false, cond, ◌||◌, nat_lt, length, Some, None, Ok, Err, MatchOption, MatchResult};
 ghost use Rattle.format.specs.Modes.{mode_of};
 ghost use Rattle.format.specs.Reading.{code_at};
 ghost use Rattle.windows.specs.Parts.{header_row, HeaderAt, block_row, block_in, BlockAt};
 
-use format::{DoorFault, Mode};
+use format::{DoorFault, Mode, payload_place};
 
 // Chips from where a frame begins.
 #[derive(Clone, Copy)]
@@ -36,23 +36,31 @@ impl<'a> Window<'a> {
     pub fn code(&self, n: u8, k: u8) -> &'a [u8]
         ensures { result.now ≡ code_at n k self.now.chips.now }
     {
-        let size = self.chips.len();
-        let start = (2048 * n as usize + 128 * k as usize).min(size);
-        let end = (start + 128).min(size);
-        &self.chips[start..end]
+        let start = 2048 * n as usize + 128 * k as usize;
+        let chips = self.chips.get(start..).unwrap_or(&[]);
+        chips.get(..128).unwrap_or(chips)
+    }
+
+    // Whether the window reaches to where the payload begins, and has at most 65,536 chips.
+    fn check_length(&self, payload: usize) -> Result<(), DoorFault>
+        ensures { result ≡ cond (nat_lt (length self.now.chips.now) payload || nat_lt 65536 (length self.now.chips.now)) (Err DoorFault.Window) (Ok tt) }
+    {
+        if (payload..=65536).contains(&self.chips.len()) {
+            Ok(())
+        } else {
+            Err(DoorFault::Window)
+        }
     }
 
     // The header's 4,096 chips, for n channels.
     pub fn header(&self, n: u8) -> Result<Part<'a>, DoorFault>
         ensures { MatchResult result (λ p. HeaderAt n self.now.chips.now p.chips.now p.place) (λ e. header_row n self.now.chips.now ≡ Some e) }
     {
-        if n < 1 || n > 4 {
+        if !(1..=4).contains(&n) {
             return Err(DoorFault::Channels);
         }
         let place = 2560 * n as usize;
-        if self.chips.len() < place + 4096 || self.chips.len() > 65536 {
-            return Err(DoorFault::Window);
-        }
+        self.check_length(place + 4096)?;
         Ok(Part {
             chips: &self.chips[place..place + 4096],
             place,
@@ -63,16 +71,13 @@ impl<'a> Window<'a> {
     pub fn block_of(&self, mode: Mode, number: usize) -> Option<Part<'a>>
         ensures { MatchOption result (block_in mode number self.now.chips.now ≡ false) (λ p. BlockAt mode number self.now.chips.now p.chips.now p.place) }
     {
-        let first = 2560 * mode.channels() + 4096;
         let spread = mode.spread();
-        let size = self.chips.len();
-        // The blocks that fit are counted, since the place of a huge number would not fit its type.
-        if size < first || (size - first) / (512 * spread) <= number {
-            return None;
-        }
-        let place = first + 512 * spread * number;
+        let place = number
+            .checked_mul(512 * spread)?
+            .checked_add(payload_place(mode))?;
+        let block = self.chips.get(place..)?.get(..512 * spread)?;
         Some(Part {
-            chips: &self.chips[place..place + 508 * spread],
+            chips: &block[..508 * spread],
             place,
         })
     }
@@ -81,12 +86,8 @@ impl<'a> Window<'a> {
     pub fn block(&self, mode: u8, number: usize) -> Result<Option<Part<'a>>, DoorFault>
         ensures { MatchResult result (λ o. (block_row (mode_of mode) self.now.chips.now ≡ None) × MatchOption (mode_of mode) ⊥ (λ m. MatchOption o (block_in m number self.now.chips.now ≡ false) (λ p. BlockAt m number self.now.chips.now p.chips.now p.place))) (λ e. block_row (mode_of mode) self.now.chips.now ≡ Some e) }
     {
-        let Some(m) = Mode::from_number(mode) else {
-            return Err(DoorFault::Mode);
-        };
-        if self.chips.len() < 2560 * m.channels() + 4096 || self.chips.len() > 65536 {
-            return Err(DoorFault::Window);
-        }
+        let m = Mode::try_from(mode)?;
+        self.check_length(payload_place(m))?;
         Ok(self.block_of(m, number))
     }
 }

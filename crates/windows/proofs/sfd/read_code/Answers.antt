@@ -1,32 +1,19 @@
-use Rattle.std.proofs.Common.{sym, ◌∙◌}
-use Rattle.std.proofs.lemmas.Bool.{cond-true, cond-false}
-use Rattle.format.specs.Reading.{read_code}
+use Rattle.std.proofs.Common.{◌≡◌, [], ◌∷◌, sym, ◌∙◌, rules}
+use Rattle.std.specs.Option.{option_map}
+use borrow.Author.Tests.{tests}
+use Rattle.std.proofs.lemmas.Iterator.Adapters.{option_map_id}
+use Rattle.std.proofs.lemmas.Iterator.{YieldsList-from_slice}
+use Rattle.std.proofs.lemmas.Iterator.Consumers.{YieldsList-from_copied}
+use Rattle.std.proofs.lemmas.Iterator.Search.{find_from_yields_List}
+use Rattle.format.specs.declared.code.Code.TheVariants.{A, MinusA, B, MinusB}
+use Rattle.format.specs.Codes.{code_chips}
+use Rattle.format.specs.Reading.{near, read_code}
 use Rattle.windows.proofs.sfd.read_code.Goals as goal
 
-pub returns-then-near : goal.returns-then-near
+pub returns : goal.returns
 unfolding read_code
-returns-then-near c = sym (cond-true _ _ _ (sym c.if-near.ensures))
-
-pub returns-then-near-2 : goal.returns-then-near-2
-unfolding read_code
-returns-then-near-2 c = sym (cond-false _ _ _ (sym c.if-near.ensures) ∙ cond-true _ _ _ (sym c.if-near-2.ensures))
-
-pub returns-then-near-3 : goal.returns-then-near-3
-unfolding read_code
-returns-then-near-3 c =
-    sym
-    (cond-false _ _ _ (sym c.if-near.ensures) ∙ cond-false _ _ _ (sym c.if-near-2.ensures) ∙ cond-true _ _ _ (sym c.if-near-3.ensures))
-
-pub returns-then-near-4 : goal.returns-then-near-4
-unfolding read_code
-returns-then-near-4 c =
-    sym
-    (cond-false _ _ _ (sym c.if-near.ensures) ∙ cond-false _ _ _ (sym c.if-near-2.ensures) ∙ cond-false _ _ _ (sym c.if-near-3.ensures)
-    ∙ cond-true _ _ _ (sym c.if-near-4.ensures))
-
-pub returns-else-near-4 : goal.returns-else-near-4
-unfolding read_code
-returns-else-near-4 c =
-    sym
-    (cond-false _ _ _ (sym c.if-near.ensures) ∙ cond-false _ _ _ (sym c.if-near-2.ensures) ∙ cond-false _ _ _ (sym c.if-near-3.ensures)
-    ∙ cond-false _ _ _ (sym c.if-near-4.ensures))
+returns c =
+    let chips = c.args.chips.now in
+    sym (option_map_id c.find.result)
+    ∙ find_from_yields_List (λ k. near chips (code_chips k)) _ _ c.find.result c.find.ensures.ran
+    (YieldsList-from_copied (YieldsList-from_slice (A ∷ MinusA ∷ B ∷ MinusB ∷ []) cc)) (λ x b q k. search (rules, tests))
