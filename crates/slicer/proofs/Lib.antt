@@ -1,3 +1,4 @@
 pub mod Groups
+pub mod Sums
 pub mod Payloads
 pub mod Openings

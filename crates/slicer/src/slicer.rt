@@ -1,40 +1,38 @@
 // The slicer: turns the chips of parts into octets.
-ghost use Rattle.std.specs.Prelude.{◌≡◌, ◌-◌, ◌^◌, ◌<◌, ◌≤◌, ◌++◌, drop, replicate};
+ghost use Rattle.std.specs.Prelude.{◌≡◌, ◌-◌, ◌^◌, ◌<◌, ◌≤◌, ◌++◌, length, replicate};
 ghost use Rattle.std.specs.List.{AllByRecursion as Each};
-ghost use Rattle.format.specs.Sequences.{value, after};
-ghost use Rattle.format.specs.Reading.{despread, payload_bit, payload_octet, word_length, word_read};
-ghost use Rattle.slicer.specs.Slices.{sum_from, bits_from, Chip, masked};
+ghost use Rattle.format.specs.Sequences.{value, drawn, after};
+ghost use Rattle.format.specs.Frame.{added};
+ghost use Rattle.format.specs.Reading.{ones, despread, payload_bit, payload_octet, word_length, word_read};
+ghost use Rattle.slicer.specs.Slices.{bits_from, Chip, masked};
 
 use format::Mode;
 use format::sequence::Register;
 use windows::{Part, Window};
 
-// The sum of the 16 chips from the place on, with the sequence added; chips past the end count nothing.
-fn lit(chips: &[u8], place: usize, register: &mut Register) -> u32
-    requires { place ≤ 65536 }
-    ensures sum { result ≡ sum_from 16 chips.now place register.old.bits }
-    ensures bits { register.new.bits ≡ after 16 register.old.bits }
+// The sum of at most 16 chips, with the sequence added.
+#[tactic(auto, using(crate::proofs::Sums::sum_step, std::proofs::lemmas::Nat::xor_lt, format::proofs::Registers::after_step, std::proofs::lemmas::List::take_all), unfolding(format::specs::Sequences::after, format::specs::Sequences::drawn, format::specs::Frame::added, format::specs::Reading::ones))]
+fn lit(chips: &[u8], register: &mut Register) -> u32
+    requires { length chips.now ≤ 16 }
+    ensures sum { result ≡ ones (added chips.now (drawn (length chips.now) register.old.bits)) }
+    ensures bits { register.new.bits ≡ after (length chips.now) register.old.bits }
 {
     let mut sum = 0;
-    for k in 0..16usize {
-        let bit = register.next();
-        if place + k < chips.len() {
-            sum += (chips[place + k] ^ bit) as u32;
-        }
+    for c in chips {
+        sum += (*c ^ register.next()) as u32;
     }
     sum
 }
 
-// The octet of the 128 chips from the place on: each bit is one where at least 9 of its 16 chips are.
-fn voted(chips: &[u8], place: usize, register: &mut Register) -> u8
-    requires { place ≤ 4096 }
-    ensures octet { result ≡ value (bits_from 8 (drop place chips.now) register.old.bits) }
-    ensures bits { register.new.bits ≡ after 128 register.old.bits }
+// The octet of at most 128 chips: each bit is one where at least 9 of its 16 chips are.
+fn voted(chips: &[u8], register: &mut Register) -> u8
+    requires { length chips.now ≤ 128 }
+    ensures octet { result ≡ value (bits_from 8 chips.now register.old.bits) }
+    ensures bits { register.new.bits ≡ after (length chips.now) register.old.bits }
 {
     let mut octet = 0;
-    for k in 0..8u8 {
-        let bit = (lit(chips, place + 16 * k as usize, register) >= 9) as u8;
-        octet |= bit << k;
+    for (k, group) in chips.chunks(16).enumerate() {
+        octet |= ((lit(group, register) >= 9) as u8) << k;
     }
     octet
 }
@@ -45,8 +43,8 @@ pub fn header_word(part: Part<'_>) -> [u8; 32]
 {
     let mut word = [0u8; 32];
     let mut register = Register::spreader();
-    for j in 0..32usize {
-        word[j] = voted(part.chips, 128 * j, &mut register);
+    for (octet, chips) in word.iter_mut().zip(part.chips.chunks(128)) {
+        *octet = voted(chips, &mut register);
     }
     word
 }

@@ -1,10 +1,11 @@
-use Rattle.std.proofs.Common.{◌≡◌, ◌+◌, ◌-◌, ◌*◌, ◌≤◌}
-use Rattle.format.specs.Sequences.{after}
-use Rattle.slicer.specs.Slices.{sum_from}
+use Rattle.std.proofs.Common.{◌≡◌, ◌*◌, ◌≤◌, take}
+use Rattle.format.specs.Sequences.{drawn, after}
+use Rattle.format.specs.Frame.{added}
+use Rattle.format.specs.Reading.{ones}
 use Rattle.slicer.proofs.slicer.lit.Given as goal
 
-abbrev pub invariant-loop-k : goal.invariant-loop-k
-invariant-loop-k l =
-    (l.sum ≤ 255 * l.k)
-    × (l.sum + sum_from (16 - l.k) l.chips (l.place + l.k) l.register.bits ≡ sum_from 16 l.chips l.place l.initial.register.bits)
-    × (after (16 - l.k) l.register.bits ≡ after 16 l.initial.register.bits)
+abbrev pub invariant-loop-c : goal.invariant-loop-c
+invariant-loop-c l =
+    (l.sum ≤ 255 * l.c-index)
+    × (l.sum ≡ ones (added (take l.c-index l.chips) (drawn l.c-index l.initial.register.bits)))
+    × (l.register.bits ≡ after l.c-index l.initial.register.bits)

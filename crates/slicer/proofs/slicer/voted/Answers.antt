@@ -1,14 +1,26 @@
-use Rattle.slicer.proofs.Groups.{vote_more, vote_done, after_group, after_groups}
+use Rattle.std.proofs.Common.{◌≡◌, ◌+◌, ◌≤◌, min, length, ◌++◌, sym, ap, ◌∙◌, arith, length-append}
+use Rattle.format.specs.Sequences.{after}
+use Rattle.format.proofs.Mixing.{after_add}
+use Rattle.slicer.proofs.Groups.{vote_more, vote_done}
 use Rattle.slicer.proofs.slicer.voted.Goals as goal
 
 pub loop-k-preserved : goal.loop-k-preserved
 loop-k-preserved c =
-    let k = c.loop-k.k in
+    let s = c.in-Some.ensures.steps in
+    let v = c.loop-k.invariant in
+    let rest = c.loop-k.k-iterator.iter.rest.now in
+    let g = c.in-Some.group.now in
+    let t = c.next.new.self.iter.rest.now in
     let r = c.loop-k.register.bits in
-    let more = vote_more c.args.chips.now c.args.place k c.loop-k.octet _ r _ _ c.loop-k-test.true c.loop-k.invariant.0 c.lit.ensures.sum c.lit.ensures.bits c.loop-k.invariant.1 in
-    (more.0, more.1, after_group 8 k r _ _ c.loop-k-test.true c.lit.ensures.bits c.loop-k.invariant.2)
+    let cut : length g ≡ min 16 (length rest) = s.0.1.1 ∙ ap (λ n. min n (length rest)) v.0 in
+    let long : length rest ≡ length g + length t = ap length s.0.1.0 ∙ length-append g t in
+    let more = vote_more rest g t c.loop-k.k-iterator.count c.loop-k.octet r _ (s.0.1.0, cut) (omega arith) v.2 v.3 in
+    let run = sym (after_add (length g) (length t) r) ∙ ap (λ n. after n r) (sym long) ∙ v.4 in
+    rw (s.1, s.2, c.lit.ensures.sum, c.lit.ensures.bits) (s.0.0 ∙ v.0, omega arith, more.0, more.1, run)
 
-pub returns : goal.returns
-returns c =
-    let r = c.loop-k.register.bits in
-    record { octet = vote_done _ c.loop-k.k c.loop-k.octet r _ c.loop-k-test.false c.loop-k.invariant.1; bits = after_groups 8 c.loop-k.k r _ c.loop-k-test.false c.loop-k.invariant.2 }
+pub returns-clause-octet : goal.returns-clause-octet
+returns-clause-octet c = vote_done _ c.loop-k.k-iterator.count _ _ _ c.in-None.ensures.steps.0.1.0 c.loop-k.invariant.3
+
+pub returns-clause-bits : goal.returns-clause-bits
+unfolding after
+returns-clause-bits c = rw c.in-None.ensures.steps.0.1.0 at c.loop-k.invariant.4
