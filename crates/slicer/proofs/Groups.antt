@@ -1,8 +1,8 @@
 -- Bits and octets over groups of chips, with a sequence taken off.
-use Rattle.std.proofs.Common.{◌≡◌, ℕ, zero, suc, ◌+◌, ◌-◌, ◌*◌, ◌%◌, ◌^◌, ◌<◌, ◌≤◌, min, Bool, true, false, cond, leb, List, [], ◌∷◌, ◌++◌, length, get_or, take, drop, set, replicate, sym, refl, ap, ◌∙◌, subst, ap₂, suc-add, zero-add, arith, length-append}
+use Rattle.std.proofs.Common.{◌≡◌, ℕ, zero, suc, ◌+◌, ◌-◌, ◌*◌, ◌%◌, ◌^◌, ◌<◌, ◌≤◌, min, Bool, true, false, cond, leb, List, [], ◌∷◌, ◌++◌, length, get_or, take, drop, set, replicate, sym, refl, ap, ◌∙◌, subst, ap₂, suc-add, zero-add, ◌⊎◌, inl, inr, arith, length-append, length-set}
 use mir.Val.{bool_byte}
 use lib.Bits.{bit_or, bit_xor}
-use Rattle.std.proofs.lemmas.List.{append_assoc, append-nil, drop-drop, drop_all, take_all, take_at, drop_at, take_more_set}
+use Rattle.std.proofs.lemmas.List.{append_assoc, append-nil, drop-drop, drop_all, take_all, take_at, drop_at, take_more_set, drop-set-lt, take-append-drop}
 use Rattle.format.specs.Sequences.{value, next, advanced, after, drawn, spreader}
 use Rattle.format.specs.Bits.{octets_of}
 use Rattle.format.specs.Frame.{added}
@@ -181,6 +181,38 @@ unfolding octets_of
 octets_none zero r = refl
 octets_none (suc n) r = octets_first n [] r ∙ ap₂ (λ v l. v ∷ l) (bits_none 8 r) (octets_none n (after 128 r))
 
-pub word_starts : (chips : List ℕ) → octets_of 32 (bits_from 256 chips spreader) ≡ despread chips
+-- ---- the header word
+
+-- what is written, and what the chips that are left tell
+abbrev pub Written : List ℕ → ℕ → List ℕ → ℕ → List ℕ → Type 0
+Written word j rest r whole =
+    (length word ≡ 32) × (drop j word ≡ replicate (32 - j) 0) × (take j word ++ octets_of (32 - j) (bits_from (8 * (32 - j)) rest r) ≡ whole)
+
+pub word_starts : (chips : List ℕ) → Written (replicate 32 0) 0 chips spreader (despread chips)
 unfolding despread bits_from
-word_starts chips = refl
+word_starts chips = (refl, refl, refl)
+
+-- one octet more
+pub word_more : (rest g t word : List ℕ) (j r : ℕ) (whole : List ℕ) → Chunk 128 rest g t → j < 32 → Written word j rest r whole
+    → Written (set word j (value (bits_from 8 g r))) (j + 1) t (after (length g) r) whole
+word_more rest g t word j r whole (e, long) h (size, zeros, all) =
+    let o = value (bits_from 8 g r) in
+    let m = 32 - (j + 1) in
+    let n : 32 - j ≡ suc (32 - (j + 1)) = omega arith in
+    let cut : length g ≡ min 128 (length (g ++ t)) = long ∙ ap (λ l. min 128 (length l)) e in
+    let left = octets_of m (bits_from (8 * m) t (after (length g) r)) in
+    let split = ap₂ (λ i l. octets_of i (bits_from (8 * i) l r)) n e ∙ octets_chunk m g t r cut in (
+      length-set word j o ∙ size,
+      drop-set-lt (j + 1) word j o (omega arith) ∙ sym (drop-drop 1 j word) ∙ ap (drop 1) (zeros ∙ ap (λ i. replicate i 0) n),
+      ap (λ l. l ++ left) (take_more_set word j o (omega arith)) ∙ append_assoc (take j word) (o ∷ []) left ∙ sym (ap (λ l. take j word ++ l) split) ∙ all,
+    )
+
+-- behind the last octet, or the last chip
+pub word_done : (rest word : List ℕ) (j r : ℕ) (whole : List ℕ) → (32 ≤ j) ⊎ (length rest ≡ 0) → Written word j rest r whole → word ≡ whole
+unfolding octets_of
+word_done rest word j r whole (inl h) (size, zeros, all) =
+    let none : 32 - j ≡ 0 = omega arith in
+    sym (append-nil word) ∙ sym (ap₂ (λ a n. a ++ octets_of n (bits_from (8 * n) rest r)) (take_all j word (omega arith)) none) ∙ all
+word_done [] word j r whole (inr h) (size, zeros, all) =
+    sym (take-append-drop j word) ∙ ap (λ l. take j word ++ l) (zeros ∙ sym (octets_none (32 - j) r)) ∙ all
+word_done (x ∷ rest) word j r whole (inr h) written = absurd (omega arith)

@@ -43,8 +43,8 @@ pub fn header_word(part: Part<'_>) -> [u8; 32]
 {
     let mut word = [0u8; 32];
     let mut register = Register::spreader();
-    for (octet, chips) in word.iter_mut().zip(part.chips.chunks(128)) {
-        *octet = voted(chips, &mut register);
+    for (j, chips) in part.chips.chunks(128).take(32).enumerate() {
+        word[j] = voted(chips, &mut register);
     }
     word
 }
