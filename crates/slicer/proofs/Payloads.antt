@@ -4,7 +4,7 @@ use lib.Bits.{bit_and, bit_or}
 use lib.ListN.{length-map}
 use Rattle.std.specs.List.{range_with_len, AllByRecursion as Each}
 use Rattle.std.proofs.lemmas.Nat.{and_mask, mul-le}
-use Rattle.std.proofs.lemmas.List.{append_assoc, set_at, take-map, drop-map}
+use Rattle.std.proofs.lemmas.List.{append_assoc, append-nil, set_at, take-map, drop-map, take-replicate, drop-replicate}
 use Rattle.std.proofs.lemmas.List.FromFn.{length-map-range_with_len, map-range_with_len_more}
 use Rattle.std.proofs.lemmas.Bool.{leb-true, cond-true, cond-false}
 use Rattle.format.specs.declared.mode.Mode.{Mode}
@@ -113,23 +113,26 @@ payload_more m w j k o b whole h low e all =
 
 -- ---- a word
 
-pub word_starts : (m : Mode) (w : List ℕ) (first : ℕ) → replicate 240 0 ≡ payload_octets m w first 0 ++ replicate 240 0
+pub word_starts : (m : Mode) (w : List ℕ) (first n : ℕ) → n ≤ 240 → take n (replicate 240 0) ≡ payload_octets m w first 0 ++ replicate (n - 0) 0
 unfolding payload_octets
-word_starts m w first = refl
+word_starts m w first n h = take-replicate n 240 0 h ∙ ap (λ i. replicate i 0) (let e : n ≡ n - 0 = omega arith in e)
 
-pub word_more : (m : Mode) (w out : List ℕ) (first j v : ℕ) → j < 240 → v ≡ payload_octet m w (first + j) → out ≡ payload_octets m w first j ++ replicate (240 - j) 0
-    → set out j v ≡ payload_octets m w first (j + 1) ++ replicate (240 - (j + 1)) 0
+pub word_more : (m : Mode) (w out : List ℕ) (first n j : ℕ) → j < n → out ≡ payload_octets m w first j ++ replicate (n - j) 0
+    → set out j (payload_octet m w (first + j)) ≡ payload_octets m w first (j + 1) ++ replicate (n - (j + 1)) 0
 unfolding payload_octets
-word_more m w out first j v h ev e =
-    let n : 240 - j ≡ suc (240 - (j + 1)) = omega arith in
-    let zeros = replicate (240 - (j + 1)) 0 in
+word_more m w out first n j h e =
+    let more : n - j ≡ suc (n - (j + 1)) = omega arith in
+    let zeros = replicate (n - (j + 1)) 0 in
     let done = payload_octets m w first j in
-    ap (λ l. set l j v) (e ∙ ap (λ l. done ++ replicate l 0) n) ∙ set_at done 0 zeros v j (length-map-range_with_len (payload_octet m w) first j)
-    ∙ ap (λ x. done ++ (x ∷ zeros)) ev
-    ∙ sym (append_assoc done (payload_octet m w (first + j) ∷ []) zeros)
+    let o = payload_octet m w (first + j) in
+    ap (λ l. set l j o) (e ∙ ap (λ l. done ++ replicate l 0) more) ∙ set_at done 0 zeros o j (length-map-range_with_len (payload_octet m w) first j)
+    ∙ sym (append_assoc done (o ∷ []) zeros)
     ∙ sym (ap (λ l. l ++ zeros) (map-range_with_len_more (payload_octet m w) first j (first + j) refl))
 
-pub word_done : (m : Mode) (w out : List ℕ) (L k j size : ℕ) → j ≡ size → size ≡ word_length L k → out ≡ payload_octets m w (240 * k) j ++ replicate (240 - j) 0
-    → out ≡ word_read m L w k ++ replicate (240 - word_length L k) 0
+pub word_done : (m : Mode) (w items : List ℕ) (L k n j : ℕ) → n ≡ word_length L k → j ≡ n → items ≡ payload_octets m w (240 * k) j ++ replicate (n - j) 0
+    → items ++ drop n (replicate 240 0) ≡ word_read m L w k ++ replicate (240 - word_length L k) 0
 unfolding word_read
-word_done m w out L k j size ej es e = e ∙ ap (λ n. payload_octets m w (240 * k) n ++ replicate (240 - n) 0) (ej ∙ es)
+word_done m w items L k n j en ej e =
+    let none : n - n ≡ 0 = omega arith in
+    let whole = e ∙ ap (λ i. payload_octets m w (240 * k) i ++ replicate (n - i) 0) ej ∙ ap (λ i. payload_octets m w (240 * k) n ++ replicate i 0) none ∙ append-nil (payload_octets m w (240 * k) n) in
+    ap₂ (λ a b. a ++ b) whole (drop-replicate n 240 0) ∙ ap (λ i. payload_octets m w (240 * k) i ++ replicate (240 - i) 0) en

@@ -49,27 +49,36 @@ pub fn header_word(part: Part<'_>) -> [u8; 32]
     word
 }
 
-// Payload bit k of a mode; zero where its block is not wholly in the window.
-fn payload_bit(window: Window<'_>, mode: Mode, k: usize) -> u8
-    ensures { result ≡ payload_bit mode (masked window.entry.chips.now) k }
-{
-    let Some(part) = window.block_of(mode, k / 508) else {
-        return 0;
-    };
-    // The mask keeps the octet's bits apart whatever the chips are.
-    part.chips[mode.spread() * (k % 508)] & 1
+// The payload of a window's frame.
+#[derive(Clone, Copy)]
+struct Payload<'a> {
+    window: Window<'a>,
+    mode: Mode,
 }
 
-// Payload octet j, its first bit the lowest.
-fn payload_octet(window: Window<'_>, mode: Mode, j: usize) -> u8
-    requires { j < 2 ^ 32 }
-    ensures { result ≡ payload_octet mode (masked window.entry.chips.now) j }
-{
-    let mut octet = 0;
-    for k in 0..8u8 {
-        octet |= payload_bit(window, mode, 8 * j + k as usize) << k;
+impl Payload<'_> {
+    // Bit k; zero where its block is not wholly in the window.
+    fn bit(self, k: usize) -> u8
+        ensures { result ≡ payload_bit self.entry.mode (masked self.entry.window.chips.now) k }
+    {
+        let Some(part) = self.window.block_of(self.mode, k / 508) else {
+            return 0;
+        };
+        // The mask keeps the octet's bits apart whatever the chips are.
+        part.chips[self.mode.spread() * (k % 508)] & 1
     }
-    octet
+
+    // Octet j, its first bit the lowest.
+    fn octet(self, j: usize) -> u8
+        requires { j < 2 ^ 32 }
+        ensures { result ≡ payload_octet self.entry.mode (masked self.entry.window.chips.now) j }
+    {
+        let mut octet = 0;
+        for k in 0..8u8 {
+            octet |= self.bit(8 * j + k as usize) << k;
+        }
+        octet
+    }
 }
 
 // Writes body word `number`, from 0, of a body of `length` octets, and zeros behind it, and answers how many octets the word has.
@@ -89,9 +98,10 @@ pub fn body_word(
         .min(224)
         + 16;
     let first = 240 * number as usize;
+    let payload = Payload { window, mode };
     *out = [0; 240];
-    for j in 0..size {
-        out[j] = payload_octet(window, mode, first + j);
+    for (j, octet) in out[..size].iter_mut().enumerate() {
+        *octet = payload.octet(first + j);
     }
     size
 }
