@@ -22,7 +22,7 @@ pub struct Frames<'a> {
 }
 
 fn read_frames<'a>(mode: &str, count: &str, file: Option<&'a str>) -> Option<Command<'a>> {
-    let mode = Mode::from_number(mode.parse::<u8>().ok()?)?;
+    let mode = Mode::try_from(mode.parse::<u8>().ok()?).ok()?;
     let count = count.parse::<u32>().ok()?;
     Some(Command::Frames(Frames { mode, count, file }))
 }

@@ -25,9 +25,7 @@ fn length_of(mode: Mode, body: usize) -> usize
 fn admit(mode: u8, mac: usize, body: usize) -> Result<Mode, DoorFault>
     ensures { result ≡ sized (mode_of mode) mac body }
 {
-    let Some(m) = Mode::from_number(mode) else {
-        return Err(DoorFault::Mode);
-    };
+    let m = Mode::try_from(mode)?;
     if mac != 10 {
         return Err(DoorFault::Mac);
     }
