@@ -1,12 +1,8 @@
 -- What the slicer takes from chips.
-use Rattle.std.specs.Prelude.{ℕ, ◌*◌, ◌%◌, ◌<◌, List, map, take, drop}
+use Rattle.std.specs.Prelude.{ℕ, ◌*◌, ◌%◌, ◌<◌, List, map}
 use Rattle.format.specs.Sequences.{drawn}
 use Rattle.format.specs.Frame.{added}
-use Rattle.format.specs.Reading.{ones, majorities}
-
--- the sum of n chips from a place on, with the sequence from a register on added; past the end there is none
-unfoldable pub sum_from : ℕ → List ℕ → ℕ → ℕ → ℕ
-sum_from n chips at r = ones (added (take n (drop at chips)) (drawn n r))
+use Rattle.format.specs.Reading.{majorities}
 
 -- k bits from 16 chips each, with the sequence from a register on taken off
 unfoldable pub bits_from : ℕ → List ℕ → ℕ → List ℕ

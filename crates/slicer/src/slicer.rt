@@ -58,6 +58,7 @@ struct Payload<'a> {
 
 impl Payload<'_> {
     // Bit k; zero where its block is not wholly in the window.
+    #[tactic(auto, using(crate::proofs::Payloads::bit_none, crate::proofs::Payloads::bit_some, crate::proofs::Payloads::bit_inside))]
     fn bit(self, k: usize) -> u8
         ensures { result ≡ payload_bit self.entry.mode (masked self.entry.window.chips.now) k }
     {
