@@ -1,15 +1,15 @@
 -- The chips of a block, and blocks one behind the other.
-use Rattle.std.proofs.Common.{◌≡◌, ℕ, zero, suc, ◌+◌, ◌-◌, ◌*◌, ◌/◌, ◌%◌, ◌^◌, ◌<◌, ◌≤◌, List, [], ◌∷◌, ◌++◌, length, get_or, take, drop, replicate, sym, refl, ap, ◌∙◌, ap₂, mul_comm, mul-one, mul-add, add-one, arith}
+use Rattle.std.proofs.Common.{◌≡◌, ℕ, zero, suc, ◌+◌, ◌-◌, ◌*◌, ◌/◌, ◌%◌, ◌^◌, ◌<◌, ◌≤◌, List, [], ◌∷◌, ◌++◌, length, get_or, take, drop, replicate, sym, refl, ap, ◌∙◌, mul_comm, mul-one, mul-add, add-one, arith}
 use lib.Bits.{bit_and}
-use lib.Seq.{paste}
+use borrow.Rule.Slice.PartMut.{put_mid}
 use Rattle.std.proofs.lemmas.Nat.{and_mask, div-add-mod', div_below, mod_below}
 use Rattle.std.proofs.lemmas.List.{length-append, append_assoc, append-nil, length-take-le, length-drop, get_or_append_left, get_or-append_right, get_or-take, get_or-drop, drop-drop}
 use Rattle.format.specs.Bits.{line}
 use Rattle.format.specs.Payload.{repeated, pilots, blocks}
-use Rattle.format.proofs.Lengths.{length_line, length_repeated, length_blocks}
+use Rattle.format.proofs.Lengths.{length_line, length_repeated}
 use Rattle.format.proofs.BitPlaces.{line_at}
 use Rattle.frames.specs.Blocks.{block_bits}
-use Rattle.frames.proofs.Pastes.{paste_behind}
+use Rattle.frames.proofs.Fronts.{piece_more}
 use Rattle.frames.proofs.ChipPlaces.{repeated_at}
 
 data_long : (b : ℕ) (bs : List ℕ) → 508 * b + 508 ≤ length bs → length (take 508 (drop (508 * b) bs)) ≡ 508
@@ -75,9 +75,8 @@ blocks_more n k bs = grown k bs ∙ sym (ap (λ m. blocks n m bs) (add-one k))
         ∙ ap (λ l. r ++ (pilots n ++ (blocks n m rest ++ repeated n (take 508 l ++ (1 ∷ 0 ∷ 1 ∷ 0 ∷ []))))) (sym (drop-drop (508 * m) 508 cs ∙ ap (λ i. drop i cs) place))
         ∙ ap (λ l. r ++ (pilots n ++ l)) (grown m rest)
 
-pub blocks_step : (d row end bs : List ℕ) (at n k : ℕ) → 508 * k + 508 ≤ length bs → at ≤ length d
-    → row ≡ paste d at (blocks n k bs) (512 * n * k) → end ≡ paste row (at + 512 * n * k) (repeated n (block_bits k bs)) (512 * n)
-    → end ≡ paste d at (blocks n (k + 1) bs) (512 * n * (k + 1))
-blocks_step d row end bs at n k h room er ee =
-    paste_behind d row end (blocks n k bs) (repeated n (block_bits k bs)) at (512 * n * k) (512 * n) (sym (length_blocks n k bs (omega arith))) (sym (chips_long n k bs h)) room er ee
-    ∙ ap₂ (λ l m. paste d at l m) (blocks_more n k bs) (sym (mul-add (512 * n) k 1 ∙ ap (λ m. 512 * n * k + m) (mul-one (512 * n))))
+pub block_more : (chips piece bs : List ℕ) (n k m : ℕ) → 508 * k + 508 ≤ length bs → 512 * n * k ≤ length chips → piece ≡ repeated n (block_bits k bs)
+    → take (512 * n * k) chips ≡ blocks n k bs → take (512 * n * (k + 1)) (put_mid (512 * n * k) m chips piece) ≡ blocks n (k + 1) bs
+block_more chips piece bs n k m h fits e f =
+    let place : 512 * n * (k + 1) ≡ 512 * n * k + length piece = mul-add (512 * n) k 1 ∙ ap (λ j. 512 * n * k + j) (mul-one (512 * n) ∙ sym (ap length e ∙ chips_long n k bs h)) in
+    piece_more chips piece (blocks n k bs) (blocks n (k + 1) bs) (512 * n * k) m (512 * n * (k + 1)) fits place f (ap (λ l. blocks n k bs ++ l) e ∙ blocks_more n k bs)

@@ -1,27 +1,13 @@
 -- The body's words, one behind the other.
-use Rattle.std.proofs.Common.{◌≡◌, ℕ, zero, suc, ◌+◌, ◌-◌, ◌*◌, ◌<◌, ◌≤◌, min, true, cond, ◌&&◌, List, [], ◌++◌, length, take, drop, replicate, sym, refl, ap, ◌∙◌, ap₂, ⊎_elim, add-one, arith}
-use lib.Seq.{paste}
+use Rattle.std.proofs.Common.{◌≡◌, ℕ, zero, suc, ◌+◌, ◌-◌, ◌*◌, ◌<◌, ◌≤◌, min, List, ◌++◌, length, take, drop, replicate, sym, refl, ap, ◌∙◌, ⊎_elim, add-one, arith}
 use borrow.Rule.Slice.PartMut.{put_mid}
-use Rattle.std.proofs.lemmas.List.{length-append, append_assoc, append-nil, take_all, drop_all, drop-drop, length-drop, length-take-le, length-replicate, drop-replicate}
-use Rattle.std.proofs.lemmas.Bool.{le-leb, and_from, cond-true, cases_lt}
+use Rattle.std.proofs.lemmas.List.{length-append, append_assoc, append-nil, take_at, take_all, take_min, drop_at, drop_all, drop-drop, length-drop, length-take-le, drop-replicate}
+use Rattle.std.proofs.lemmas.Bool.{cases_lt}
 use Rattle.coding.specs.Codewords.{parity}
 use Rattle.coding.proofs.ParityFacts.{length_parity}
-use Rattle.words.specs.Coder.{codable}
-use Rattle.format.specs.Sequences.{mixed}
 use Rattle.format.specs.Payload.{word_count, coded_octets, coded}
-use Rattle.format.proofs.Lengths.{length_coded, words_hold}
-use Rattle.frames.proofs.Pastes.{paste_behind, take_pasted, drop_pasted}
-
--- a message, and its parity behind it
-pub word_written : (d m1 m2 message old check : List ℕ) (at : ℕ) → 1 ≤ length message → length message ≤ 224 → at ≤ length d
-    → check ≡ cond (codable message && true) (parity message) old
-    → m1 ≡ paste d at message (length message) → m2 ≡ paste m1 (at + length message) check (length check)
-    → m2 ≡ paste d at (message ++ parity message) (length message + 16)
-word_written d m1 m2 message old check at some few room ec e1 e2 =
-    let fine : codable message && true ≡ true = and_from _ _ (and_from _ _ (le-leb 1 (length message) some) (le-leb (length message) 224 few)) refl in
-    let sure : check ≡ parity message = ec ∙ cond-true _ _ _ fine in
-    paste_behind d m1 m2 message (parity message) at (length message) 16 refl (sym (length_parity message)) room e1
-    (e2 ∙ ap₂ (λ l n. paste m1 (at + length message) l n) sure (ap length sure ∙ length_parity message))
+use Rattle.format.proofs.Lengths.{length_coded}
+use Rattle.frames.proofs.Fronts.{piece_more}
 
 abbrev word : List ℕ → List ℕ
 word os = take 224 os ++ parity (take 224 os)
@@ -54,45 +40,35 @@ coded_full (suc k) os h =
       coded_full k (drop 224 os) (rw (length-drop 224 os) (omega arith)),
     )
 
--- the octets of word k, up to the next word or the body's end
-message_at : (os : List ℕ) (k e : ℕ) → e ≡ min (length os) (224 * k + 224) → take (e - 224 * k) (drop (224 * k) os) ≡ take 224 (drop (224 * k) os)
-message_at os k e h = ⊎_elim short full (cases_lt (length os) (224 * k + 224))
-  where
-    short : length os < 224 * k + 224 → take (e - 224 * k) (drop (224 * k) os) ≡ take 224 (drop (224 * k) os)
-    short s =
-        take_all (e - 224 * k) (drop (224 * k) os) (rw (length-drop (224 * k) os) (omega arith))
-        ∙ sym (take_all 224 (drop (224 * k) os) (rw (length-drop (224 * k) os) (omega arith)))
+-- a piece of at most 224 octets off the front of what is left
+pub piece_is : (rest message left : List ℕ) → rest ≡ message ++ left → length message ≡ min 224 (length rest) → message ≡ take 224 rest
+piece_is rest message left e h = sym (take_at message left (min 224 (length rest)) h) ∙ ap (take (min 224 (length rest))) (sym e) ∙ take_min 224 rest
 
-    full : 224 * k + 224 ≤ length os → take (e - 224 * k) (drop (224 * k) os) ≡ take 224 (drop (224 * k) os)
-    full s = let same : e - 224 * k ≡ 224 = omega arith in ap (λ n. take n (drop (224 * k) os)) same
+-- and what is left behind it
+pub left_is : (rest message left body : List ℕ) (k : ℕ) → rest ≡ message ++ left → length message ≡ min 224 (length rest) → rest ≡ drop (224 * k) body → left ≡ drop (224 * (k + 1)) body
+left_is rest message left body k e h f =
+    let place : 224 * k + 224 ≡ 224 * (k + 1) = omega arith in
+    ⊎_elim
+    (λ (s : length rest < 224). let none : length left ≡ 0 = omega (arith, ap length e, length-append message left) in
+    sym (take_all 0 left (omega arith)) ∙ sym (drop_all (224 * (k + 1)) body (omega (arith, ap length f, length-drop (224 * k) body))))
+    (λ (s : 224 ≤ length rest). sym (drop_at message left 224 (omega arith)) ∙ ap (drop 224) (sym e ∙ f) ∙ drop-drop 224 (224 * k) body ∙ ap (λ n. drop n body) place)
+    (cases_lt (length rest) 224)
 
-pub words_more : (d row end os : List ℕ) (k e : ℕ) → 224 * k ≤ length os → e ≡ min (length os) (224 * k + 224)
-    → row ≡ paste d 0 (coded k os) (length (coded k os))
-    → end ≡ paste row (240 * k) (take (e - 224 * k) (drop (224 * k) os) ++ parity (take (e - 224 * k) (drop (224 * k) os))) (length (take (e - 224 * k) (drop (224 * k) os)) + 16)
-    → end ≡ paste d 0 (coded (k + 1) os) (length (coded (k + 1) os))
-words_more d row end os k e h he er ee =
-    let m = take 224 (drop (224 * k) os) in
-    let w = m ++ parity m in
-    let place : 240 * k ≡ 0 + length (coded k os) = omega (arith, coded_full k os h) in
-    let long : length m + 16 ≡ length w = sym (length-append m (parity m) ∙ ap (λ n. length m + n) (length_parity m)) in
-    let behind : end ≡ paste row (0 + length (coded k os)) w (length w) =
-    ee ∙ ap (λ l. paste row (240 * k) (l ++ parity l) (length l + 16)) (message_at os k e he) ∙ ap₂ (λ p n. paste row p w n) place long in
-    paste_behind d row end (coded k os) w 0 (length (coded k os)) (length w) refl refl (omega arith) er behind
-    ∙ ap₂ (λ l n. paste d 0 l n) (coded_more k os) (sym (length-append (coded k os) w) ∙ ap length (coded_more k os))
+pub word_more : (octets word message body : List ℕ) (k m : ℕ) → 224 * k ≤ length body → 240 * k ≤ length octets → message ≡ take 224 (drop (224 * k) body) → word ≡ message ++ parity message
+    → take (length (coded k body)) octets ≡ coded k body → take (length (coded (k + 1) body)) (put_mid (240 * k) m octets word) ≡ coded (k + 1) body
+word_more octets word message body k m some fits em ew e =
+    let before : length (coded k body) ≡ 240 * k = coded_full k body some in
+    let more : coded k body ++ word ≡ coded (k + 1) body = ap (λ l. coded k body ++ l) (ew ∙ ap (λ l. l ++ parity l) em) ∙ coded_more k body in
+    let long : length (coded (k + 1) body) ≡ 240 * k + length word = ap length (sym more) ∙ length-append (coded k body) word ∙ ap (λ n. n + length word) before in
+    piece_more octets word (coded k body) (coded (k + 1) body) (240 * k) m (length (coded (k + 1) body)) fits long (ap (λ n. take n octets) (sym before) ∙ e) more
 
-pub words_all : (d row os : List ℕ) (k : ℕ) → k ≡ word_count (length os) → row ≡ paste d 0 (coded k os) (length (coded k os))
-    → row ≡ paste d 0 (coded (word_count (length os)) os) (coded_octets (length os))
-words_all d row os k e er =
-    er ∙ ap (λ n. paste d 0 (coded n os) (length (coded n os))) e
-    ∙ ap (paste d 0 (coded (word_count (length os)) os)) (length_coded (word_count (length os)) os (words_hold (length os)))
+-- the words of the whole body
+pub words_all : (octets body : List ℕ) (k : ℕ) → length body ≤ 224 * k → 224 * k ≤ length body + 223 → length octets ≡ coded_octets (length body)
+    → take (length (coded k body)) octets ≡ coded k body → octets ≡ coded (word_count (length body)) body
+words_all octets body k low high long e =
+    let count : k ≡ word_count (length body) = omega arith in
+    sym (take_all (length (coded k body)) octets (omega (arith, length_coded k body low))) ∙ e ∙ ap (λ n. coded n body) count
 
--- the words at the front, and scrambled zeros up to the end
-pub stuffed : (z s row tail : List ℕ) (m n r : ℕ) → z ≡ replicate m 0 → n ≡ length s → n ≤ m → row ≡ paste z 0 s n
-    → tail ≡ mixed r (take (m - n) (drop n row)) → put_mid n (m - n) row tail ≡ s ++ mixed r (replicate (m - n) 0)
-stuffed z s row tail m n r ez es h er et =
-    let long : length z ≡ m = ap length ez ∙ length-replicate {A = ℕ} m 0 in
-    let left : drop n row ≡ replicate (m - n) 0 = ap (drop n) er ∙ drop_pasted z s n es ∙ ap (drop n) ez ∙ drop-replicate n m 0 in
-    let zeros : take (m - n) (drop n row) ≡ replicate (m - n) 0 =
-    ap (take (m - n)) left ∙ take_all (m - n) (replicate (m - n) 0) (omega (arith, length-replicate {A = ℕ} (m - n) 0)) in
-    let none : drop (m - n) (drop n row) ≡ [] = ap (drop (m - n)) left ∙ drop_all (m - n) (replicate (m - n) 0) (omega (arith, length-replicate {A = ℕ} (m - n) 0)) in
-    ap₂ (λ p q. p ++ (tail ++ q)) (ap (take n) er ∙ take_pasted z s n es) none ∙ ap (λ l. s ++ l) (append-nil tail ∙ et ∙ ap (mixed r) zeros)
+-- zeros behind the words
+pub zeros_left : (row zeros : List ℕ) (n m : ℕ) → row ≡ replicate m 0 → zeros ≡ drop n row → zeros ≡ replicate (m - n) 0
+zeros_left row zeros n m e f = f ∙ ap (drop n) e ∙ drop-replicate n m 0

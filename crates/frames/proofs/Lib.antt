@@ -1,4 +1,4 @@
-pub mod Pastes
+pub mod Fronts
 pub mod Preambles
 pub mod HeaderWords
 pub mod ChipPlaces

@@ -3,9 +3,9 @@
 
 mod header;
 mod payload;
-mod pieces;
 mod preamble;
 pub mod scrambled;
+mod word;
 pub mod writer;
 
 pub use scrambled::Scrambled;

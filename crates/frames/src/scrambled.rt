@@ -22,13 +22,12 @@ impl Drop for Scrambled<'_> {
     fn drop(self)
         ensures { self.exit.0.now ≡ mixed (after 96 (scrambler self.entry.seed)) self.entry.body.now }
     {
-        let start = body_start(self.seed);
-        let _ = mix(self.body, start);
         let Scrambled {
-            body: _,
-            seed: _,
+            body,
+            seed,
             behind: _,
         } = self;
+        mix(body, body_start(seed));
     }
 }
 

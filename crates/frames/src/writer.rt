@@ -1,6 +1,5 @@
 // Writing a frame as chips.
 ghost use Rattle.std.specs.Prelude.{◌≡◌, ◌*◌, ◌≤◌, List, ◌++◌, length};
-ghost use Rattle.std.proofs.Math.Seq.{paste};
 ghost use Rattle.format.specs.Modes.{Row, row, mode_of};
 ghost use Rattle.format.specs.Payload.{block_count, blocks};
 ghost use Rattle.format.specs.Frame.{preamble, header_chips, frame_length};
@@ -35,15 +34,16 @@ fn admit(mode: u8, mac: usize, body: usize) -> Result<Mode, DoorFault>
     Ok(m)
 }
 
-// Writes preamble, header and payload one behind the other, at the front.
+// Writes preamble, header and payload one behind the other.
 fn write_parts(chips: &mut [u8], mode: Mode, word: &[u8; 32], body: &[u8], behind: Register)
-    requires { (length body.now ≤ 2048) × (frame_length mode (length body.now) ≤ length chips.old) }
-    ensures { chips.new ≡ paste chips.old 0 (preamble mode ++ (header_chips word.now ++ blocks (row mode).spread (block_count (length body.now)) (carried body.now behind.bits))) (frame_length mode (length body.now)) }
+    requires { (length body.now ≤ 2048) × (length chips.old ≡ frame_length mode (length body.now)) }
+    ensures { chips.new ≡ preamble mode ++ (header_chips word.now ++ blocks (row mode).spread (block_count (length body.now)) (carried body.now behind.bits)) }
 {
-    let place = 2560 * mode.channels();
-    write_preamble(chips, mode);
-    write_header(chips, place, word);
-    write_payload(chips, place + 4096, mode, body, behind);
+    let (preamble, rest) = chips.split_at_mut(2560 * mode.channels());
+    let (header, payload) = rest.split_at_mut(4096);
+    write_preamble(preamble, mode);
+    write_header(header, word);
+    write_payload(payload, mode, body, behind);
 }
 
 // Writes a frame at the front of the chips and answers how many it has. Refuses, with nothing written, a mode that is none of 1 to 7,
@@ -74,6 +74,6 @@ pub fn write_frame(
     if chips.len() < n {
         return Err(DoorFault::Room);
     }
-    write_parts(chips, m, &word, guard.view(), guard.behind());
+    write_parts(&mut chips[..n], m, &word, guard.view(), guard.behind());
     Ok(n)
 }

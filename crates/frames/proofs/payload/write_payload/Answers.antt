@@ -1,18 +1,28 @@
-use Rattle.std.proofs.Common.{◌*◌, length, ap, ◌∙◌, ap₂, arith}
-use lib.Seq.{paste}
+use Rattle.std.proofs.Common.{◌≡◌, ◌*◌, length, sym, ◌∙◌, ap₂, mul-zero, arith}
+use Rattle.std.proofs.lemmas.List.{take_all}
 use Rattle.format.specs.Bits.{line}
 use Rattle.format.specs.Modes.{row}
 use Rattle.format.specs.Payload.{block_count, blocks}
+use Rattle.format.proofs.Lengths.{length_line}
+use Rattle.frames.proofs.BlockChips.{block_more}
 use Rattle.frames.proofs.StuffBits.{blocks_carried}
 use Rattle.frames.proofs.payload.write_payload.Goals as goal
 
+pub loop-block-init : goal.loop-block-init
+unfolding blocks
+loop-block-init c = rw (mul-zero (512 * c.spread-spread.result))
+
+pub loop-block-preserved : goal.loop-block-preserved
+loop-block-preserved c =
+    let os = c.new-carried.result.0 in
+    block_more c.loop-block.chips c.write_block.new.chips (line os) c.spread-spread.result c.loop-block.block _ (omega (arith, length_line c.new-carried.result.0)) (grind arith) c.write_block.ensures c.loop-block.invariant
+
 pub returns : goal.returns
 returns c =
-    let chips = c.args.chips.now in
-    let at = c.args.at in
-    let body = c.args.body.now in
-    let bits = line c.octets_of-octets.result in
     let n = (row c.args.mode).spread in
-    c.write_blocks.ensures
-    ∙ ap₂ (λ s k. paste chips at (blocks s k bits) (512 * s * k)) c.spread.ensures c.block_count.ensures
-    ∙ ap (λ l. paste chips at l (512 * n * block_count (length body))) (blocks_carried n 2223 c.args.behind.bits body c.octets_of-octets.result (omega arith) c.octets_of-octets.ensures)
+    let body = c.args.body.now in
+    let all : c.loop-block.block ≡ block_count (length c.args.body.now) = omega arith in
+    let whole : 512 * c.spread-spread.result * c.loop-block.block ≡ length c.loop-block.chips = ap₂ (λ s k. 512 * s * k) c.spread-spread.ensures all ∙ sym c.requires.1 ∙ sym c.loop-block.auto.chips in
+    sym (take_all (512 * c.spread-spread.result * c.loop-block.block) c.loop-block.chips (omega arith)) ∙ c.loop-block.invariant
+    ∙ ap₂ (λ s k. blocks s k (line c.new-carried.result.0)) c.spread-spread.ensures all
+    ∙ blocks_carried n 2223 c.args.behind.bits body c.new-carried.result.0 (omega arith) c.new-carried.ensures

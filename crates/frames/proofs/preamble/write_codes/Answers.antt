@@ -1,16 +1,18 @@
-use Rattle.std.proofs.Common.{[], arith}
-use Rattle.std.proofs.lemmas.List.Edits.{paste_none}
+use Rattle.std.proofs.Common.{◌*◌, refl, ap, sym, ◌∙◌, arith}
+use Rattle.std.proofs.lemmas.List.{take_all}
 use Rattle.format.specs.Frame.{all_signed}
-use Rattle.frames.proofs.Preambles.{codes_more, codes_all}
+use Rattle.frames.proofs.Preambles.{code_more}
 use Rattle.frames.proofs.preamble.write_codes.Goals as goal
 
 pub loop-k-init : goal.loop-k-init
-loop-k-init c = paste_none c.args.chips.now c.args.at (all_signed [])
+unfolding all_signed
+loop-k-init c = refl
 
 pub loop-k-preserved : goal.loop-k-preserved
 loop-k-preserved c =
-    codes_more c.args.chips.now c.loop-k.chips c.write_code.new.chips c.args.signs.now c.args.at c.loop-k.k c.loop-k-test.true (omega arith)
-    c.loop-k.invariant c.write_code.ensures
+    code_more c.loop-k.chips c.copy_from_slice.new.self c.args.signs.now c.loop-k.k _ (omega arith) (omega arith) (c.copy_from_slice.ensures.after ∙ c.signed.ensures) c.loop-k.invariant
 
 pub returns : goal.returns
-returns c = codes_all c.args.chips.now c.loop-k.chips c.args.signs.now c.args.at c.loop-k.k (omega arith) c.loop-k.invariant
+returns c =
+    let k = c.loop-k.k in
+    sym (take_all (128 * k) c.loop-k.chips (omega arith)) ∙ c.loop-k.invariant ∙ ap all_signed (take_all k c.args.signs.now (omega arith))

@@ -1,4 +1,5 @@
 use Rattle.std.proofs.Common.{◌≡◌, ℕ, ◌<◌, ◌≤◌, List, length, Ok, ap, ◌∙◌, arith, rules}
+use Rattle.std.proofs.lemmas.List.{length-take-le}
 use Rattle.format.specs.Modes.{mode_of}
 use Rattle.format.specs.Sequences.{mixed}
 use Rattle.format.specs.Frame.{frame_length}
@@ -27,7 +28,7 @@ write_parts-requires c =
     let long = scrambled_long c.view.result.now _ c.args.body.now _ c.view.ensures c.new-guard.ensures.scrambled in
     let again = scrambled_long c.view-2.result.now _ c.args.body.now _ c.view-2.ensures c.new-guard.ensures.scrambled in
     let whole = c.length_of-n.ensures ∙ ap (frame_length c.in_ok-m.m) long in
-    rw again (omega arith, omega arith)
+    rw again (omega arith, omega (arith, length-take-le c.length_of-n.result c.args.chips.now (omega arith)))
 
 pub returns-then-chips-n : goal.returns-then-chips-n
 returns-then-chips-n c =
@@ -58,7 +59,7 @@ returns c =
     let size = c.length_of-n.ensures ∙ ap (frame_length m) long in
     let room : frame_length c.in_ok-m.m (length c.args.body.now) ≤ length c.args.chips.now = omega arith in
     let let_in = roomed_yes (sized (mode_of c.args.mode) (length mac) (length body)) m (length body) (length chips) c.in_ok-m.ensures room in
-    let whole = frame_done f chips c.write_parts.new.chips c.word_of-word.result c.view-2.result.now c.behind.result.bits ten c.word_of-word.ensures
+    let whole = frame_done f chips c.write_parts.new.chips c.word_of-word.result c.view-2.result.now c.behind.result.bits _ size c.word_of-word.ensures
     (c.view-2.ensures ∙ c.new-guard.ensures.scrambled) (c.behind.ensures ∙ c.new-guard.ensures.behind) c.write_parts.ensures in
     let back = restored _ c.new-guard.result.seed body c.new-guard.result.body.now _ c.new-guard.ensures.seed c.new-guard.ensures.scrambled c.drop-guard-2.ensures in
     record {
