@@ -1,7 +1,6 @@
 -- The chips of a block, and blocks one behind the other.
-use Rattle.std.proofs.Common.{◌≡◌, ℕ, zero, suc, ◌+◌, ◌-◌, ◌*◌, ◌/◌, ◌%◌, ◌^◌, ◌<◌, ◌≤◌, List, [], ◌∷◌, ◌++◌, length, get_or, take, drop, replicate, sym, refl, ap, ◌∙◌, mul_comm, mul-one, mul-add, add-one, arith}
+use Rattle.std.proofs.Common.{◌≡◌, ℕ, zero, suc, ◌+◌, ◌-◌, ◌*◌, ◌/◌, ◌%◌, ◌^◌, ◌<◌, ◌≤◌, List, [], ◌∷◌, ◌++◌, length, get_or, take, drop, set, replicate, sym, refl, ap, ◌∙◌, mul_comm, mul-one, mul-add, add-one, arith}
 use lib.Bits.{bit_and}
-use borrow.Rule.Slice.PartMut.{put_mid}
 use Rattle.std.proofs.lemmas.Nat.{and_mask, div-add-mod', div_below, mod_below}
 use Rattle.std.proofs.lemmas.List.{length-append, append_assoc, append-nil, length-take-le, length-drop, get_or_append_left, get_or-append_right, get_or-take, get_or-drop, drop-drop}
 use Rattle.format.specs.Bits.{line}
@@ -9,7 +8,7 @@ use Rattle.format.specs.Payload.{repeated, pilots, blocks}
 use Rattle.format.proofs.Lengths.{length_line, length_repeated}
 use Rattle.format.proofs.BitPlaces.{line_at}
 use Rattle.frames.specs.Blocks.{block_bits}
-use Rattle.frames.proofs.Fronts.{piece_more}
+use Rattle.frames.proofs.Fronts.{place_more, all_places}
 use Rattle.frames.proofs.ChipPlaces.{repeated_at}
 
 data_long : (b : ℕ) (bs : List ℕ) → 508 * b + 508 ≤ length bs → length (take 508 (drop (508 * b) bs)) ≡ 508
@@ -42,8 +41,11 @@ data_at os b q h low =
     ∙ sym (get_or-take 508 (drop (508 * b) bs) q 0 low)
     ∙ sym (get_or_append_left (take 508 (drop (508 * b) bs)) (1 ∷ 0 ∷ 1 ∷ 0 ∷ []) 0 q (omega (arith, data_long b bs fits)))
 
+pub chips_long : (n b : ℕ) (bs : List ℕ) → 508 * b + 508 ≤ length bs → length (repeated n (block_bits b bs)) ≡ 512 * n
+chips_long n b bs h = length_repeated n (block_bits b bs) ∙ ap (λ m. n * m) (block_long b bs h) ∙ mul_comm n 512
+
 -- of bits that are sent n times, chip j is bit j / n
-pub sent_at : (n b : ℕ) (bs : List ℕ) (j x : ℕ) → 0 < n → 508 * b + 508 ≤ length bs → j < 512 * n → x ≡ get_or (block_bits b bs) (j / n) 0
+sent_at : (n b : ℕ) (bs : List ℕ) (j x : ℕ) → 0 < n → 508 * b + 508 ≤ length bs → j < 512 * n → x ≡ get_or (block_bits b bs) (j / n) 0
     → x ≡ get_or (repeated n (block_bits b bs)) j 0
 sent_at n b bs j x some h k e =
     let row = block_bits b bs in
@@ -51,8 +53,17 @@ sent_at n b bs j x some h k e =
     let place : n * (j / n) + j % n ≡ j = ap (λ m. m + j % n) (mul_comm n (j / n)) ∙ div-add-mod' j n in
     e ∙ sym (repeated_at n row (j / n) (j % n) (omega (arith, block_long b bs h)) (mod_below j n some)) ∙ ap (λ i. get_or (repeated n row) i 0) place
 
-pub chips_long : (n b : ℕ) (bs : List ℕ) → 508 * b + 508 ≤ length bs → length (repeated n (block_bits b bs)) ≡ 512 * n
-chips_long n b bs h = length_repeated n (block_bits b bs) ∙ ap (λ m. n * m) (block_long b bs h) ∙ mul_comm n 512
+-- one chip more of a block
+pub chip_more : (chips os : List ℕ) (n b j x : ℕ) → 0 < n → 508 * b + 508 ≤ 8 * length os → length chips ≡ 512 * n → j < length chips → x ≡ get_or (block_bits b (line os)) (j / n) 0
+    → take j chips ≡ take j (repeated n (block_bits b (line os))) → take (j + 1) (set chips j x) ≡ take (j + 1) (repeated n (block_bits b (line os)))
+chip_more chips os n b j x some h long k e f =
+    let bs = line os in
+    let fits : 508 * b + 508 ≤ length (line os) = omega (arith, length_line os) in
+    place_more chips (repeated n (block_bits b bs)) j x k (omega (arith, chips_long n b bs fits)) (sent_at n b bs j x some fits (omega arith) e) f
+
+pub chips_all : (chips os : List ℕ) (n b j : ℕ) → 508 * b + 508 ≤ 8 * length os → length chips ≡ 512 * n → length chips ≤ j
+    → take j chips ≡ take j (repeated n (block_bits b (line os))) → chips ≡ repeated n (block_bits b (line os))
+chips_all chips os n b j h long k f = all_places chips (repeated n (block_bits b (line os))) j k (omega (arith, chips_long n b (line os) (omega (arith, length_line os)))) f
 
 repeated_append : (n : ℕ) (xs ys : List ℕ) → repeated n (xs ++ ys) ≡ repeated n xs ++ repeated n ys
 unfolding repeated
@@ -60,7 +71,7 @@ repeated_append n [] ys = refl
 repeated_append n (x ∷ xs) ys = ap (λ l. replicate n x ++ l) (repeated_append n xs ys) ∙ sym (append_assoc (replicate n x) (repeated n xs) (repeated n ys))
 
 -- one block more
-blocks_more : (n k : ℕ) (bs : List ℕ) → blocks n k bs ++ repeated n (block_bits k bs) ≡ blocks n (k + 1) bs
+pub blocks_more : (n k : ℕ) (bs : List ℕ) → blocks n k bs ++ repeated n (block_bits k bs) ≡ blocks n (k + 1) bs
 unfolding blocks pilots
 blocks_more n k bs = grown k bs ∙ sym (ap (λ m. blocks n m bs) (add-one k))
   where
@@ -74,9 +85,3 @@ blocks_more n k bs = grown k bs ∙ sym (ap (λ m. blocks n m bs) (add-one k))
         ∙ ap (λ l. r ++ l) (append_assoc (pilots n) (blocks n m rest) (repeated n (block_bits (suc m) cs)))
         ∙ ap (λ l. r ++ (pilots n ++ (blocks n m rest ++ repeated n (take 508 l ++ (1 ∷ 0 ∷ 1 ∷ 0 ∷ []))))) (sym (drop-drop (508 * m) 508 cs ∙ ap (λ i. drop i cs) place))
         ∙ ap (λ l. r ++ (pilots n ++ l)) (grown m rest)
-
-pub block_more : (chips piece bs : List ℕ) (n k m : ℕ) → 508 * k + 508 ≤ length bs → 512 * n * k ≤ length chips → piece ≡ repeated n (block_bits k bs)
-    → take (512 * n * k) chips ≡ blocks n k bs → take (512 * n * (k + 1)) (put_mid (512 * n * k) m chips piece) ≡ blocks n (k + 1) bs
-block_more chips piece bs n k m h fits e f =
-    let place : 512 * n * (k + 1) ≡ 512 * n * k + length piece = mul-add (512 * n) k 1 ∙ ap (λ j. 512 * n * k + j) (mul-one (512 * n) ∙ sym (ap length e ∙ chips_long n k bs h)) in
-    piece_more chips piece (blocks n k bs) (blocks n (k + 1) bs) (512 * n * k) m (512 * n * (k + 1)) fits place f (ap (λ l. blocks n k bs ++ l) e ∙ blocks_more n k bs)

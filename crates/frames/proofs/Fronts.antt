@@ -1,5 +1,5 @@
 -- A row that is written from the front on, place by place or piece by piece: what its front holds.
-use Rattle.std.proofs.Common.{◌≡◌, ℕ, ◌+◌, ◌<◌, ◌≤◌, List, [], ◌∷◌, ◌++◌, length, get_or, take, drop, set, sym, ap, ◌∙◌, ap₂, arith}
+use Rattle.std.proofs.Common.{◌≡◌, ℕ, ◌+◌, ◌*◌, ◌<◌, ◌≤◌, List, [], ◌∷◌, ◌++◌, length, get_or, take, drop, set, sym, ap, ◌∙◌, ap₂, mul-one, mul-add, arith}
 use borrow.Rule.Slice.PartMut.{put_mid}
 use Rattle.std.proofs.lemmas.List.{append-nil, take_all, take_more, take_more_set, drop_all, length-drop}
 use Rattle.std.proofs.lemmas.Slice.{take-put_mid}
@@ -15,6 +15,10 @@ all_places row s n h k e = sym (take_all n row h) ∙ e ∙ take_all n s k
 -- one piece more
 pub piece_more : (row piece s t : List ℕ) (a k n : ℕ) → a ≤ length row → n ≡ a + length piece → take a row ≡ s → s ++ piece ≡ t → take n (put_mid a k row piece) ≡ t
 piece_more row piece s t a k n h m e f = take-put_mid a k row piece n m h ∙ ap (λ l. l ++ piece) e ∙ f
+
+-- of parts of n places, one more
+pub part_more : (row part s t : List ℕ) (n i m : ℕ) → length part ≡ n → n * i ≤ length row → s ++ part ≡ t → take (n * i) row ≡ s → take (n * (i + 1)) (put_mid (n * i) m row part) ≡ t
+part_more row part s t n i m long h f e = piece_more row part s t (n * i) m (n * (i + 1)) h (mul-add n i 1 ∙ ap (λ k. n * i + k) (mul-one n ∙ sym long)) e f
 
 -- the last piece
 pub piece_last : (row piece s : List ℕ) (a k : ℕ) → length row ≤ a + k → take a row ≡ s → put_mid a k row piece ≡ s ++ piece

@@ -1,5 +1,5 @@
 -- The preamble, code by code.
-use Rattle.std.proofs.Common.{◌≡◌, ℕ, zero, suc, ◌+◌, ◌*◌, ◌/◌, ◌%◌, ◌<◌, ◌≤◌, Bool, true, false, List, [], ◌∷◌, ◌++◌, length, get_or, take, sym, refl, ap, ◌∙◌, ap₂, mul-one, mul-add, add-one, arith}
+use Rattle.std.proofs.Common.{◌≡◌, ℕ, zero, suc, ◌+◌, ◌*◌, ◌/◌, ◌%◌, ◌<◌, ◌≤◌, Bool, true, false, List, [], ◌∷◌, ◌++◌, length, get_or, take, sym, refl, ap, ◌∙◌, ap₂, add-one, arith}
 use borrow.Rule.Slice.PartMut.{put_mid}
 use Rattle.std.proofs.Math.Nat.{div-add-mod}
 use Rattle.std.proofs.lemmas.List.{append_assoc, append-nil, take_more, take_all}
@@ -12,7 +12,7 @@ use Rattle.format.proofs.Lengths.{length_signed}
 use Rattle.frames.proofs.Fronts.{piece_more}
 
 -- one copy more behind the others
-copies_more : (n : ℕ) (xs : List ℕ) → copies n xs ++ xs ≡ copies (n + 1) xs
+pub copies_more : (n : ℕ) (xs : List ℕ) → copies n xs ++ xs ≡ copies (n + 1) xs
 unfolding copies
 copies_more n xs = grown n ∙ sym (ap (λ k. copies k xs) (add-one n))
   where
@@ -26,20 +26,8 @@ all_signed_more [] t = sym (append-nil (signed t))
 all_signed_more (s ∷ ss) t = append_assoc (signed s) (all_signed ss) (signed t) ∙ ap (λ l. signed s ++ l) (all_signed_more ss t)
 
 -- one code more of a row of signs
-pub code_more : (chips code : List ℕ) (signs : List Bool) (k m : ℕ) → k < length signs → 128 * k ≤ length chips → code ≡ signed (get_or signs k false)
-    → take (128 * k) chips ≡ all_signed (take k signs) → take (128 * (k + 1)) (put_mid (128 * k) m chips code) ≡ all_signed (take (k + 1) signs)
-code_more chips code signs k m h fits e f =
-    let t = get_or signs k false in
-    let long : length code ≡ 128 = ap length e ∙ length_signed t in
-    piece_more chips code (all_signed (take k signs)) (all_signed (take (k + 1) signs)) (128 * k) m (128 * (k + 1)) fits (omega arith) f
-    (ap (λ l. all_signed (take k signs) ++ l) e ∙ all_signed_more (take k signs) t ∙ ap all_signed (sym (take_more signs k false h)))
-
--- one copy more of a piece of n chips
-pub copy_more : (chips copy piece : List ℕ) (n i m : ℕ) → length piece ≡ n → n * i ≤ length chips → copy ≡ piece
-    → take (n * i) chips ≡ copies i piece → take (n * (i + 1)) (put_mid (n * i) m chips copy) ≡ copies (i + 1) piece
-copy_more chips copy piece n i m long fits e f =
-    let place : n * (i + 1) ≡ n * i + length copy = mul-add n i 1 ∙ ap₂ (λ a b. n * i + b) (mul-one n) (mul-one n ∙ sym long ∙ ap length (sym e)) in
-    piece_more chips copy (copies i piece) (copies (i + 1) piece) (n * i) m (n * (i + 1)) fits place f (ap (λ l. copies i piece ++ l) e ∙ copies_more i piece)
+pub codes_more : (signs : List Bool) (code : List ℕ) (k : ℕ) → k < length signs → code ≡ signed (get_or signs k false) → all_signed (take k signs) ++ code ≡ all_signed (take (k + 1) signs)
+codes_more signs code k h e = ap (λ l. all_signed (take k signs) ++ l) e ∙ all_signed_more (take k signs) _ ∙ ap all_signed (sym (take_more signs k false h))
 
 -- the signs of a group, place by place
 signs_listed : (m : Mode) → get_or (row m).minus 0 false ∷ get_or (row m).minus 1 false ∷ get_or (row m).minus 2 false ∷ [] ≡ (row m).minus
@@ -60,10 +48,3 @@ preamble_done m sync groups codes signs a b es ea eb ec e f =
     let listed : true ∷ get_or signs 0 false ∷ get_or signs 1 false ∷ get_or signs 2 false ∷ [] ≡ true ∷ (row m).minus =
     ap (λ (l : List Bool). true ∷ get_or l 0 false ∷ get_or l 1 false ∷ get_or l 2 false ∷ []) es ∙ ap (λ l. true ∷ l) (signs_listed m) in
     ap₂ ◌++◌ (e ∙ ap (λ n. copies n code_a) ea) (f ∙ ap₂ copies eb (ec ∙ ap all_signed listed))
-
--- copies up to the end
-pub copies_all : (chips piece : List ℕ) (n i m : ℕ) → i ≡ m / n → m % n ≡ 0 → length chips ≡ m → take (n * i) chips ≡ copies i piece → chips ≡ copies (m / n) piece
-copies_all chips piece n i m e none long f =
-    let whole : n * (m / n) ≡ m = omega (arith, div-add-mod m n) in
-    let place : n * i ≡ m = ap (λ k. n * k) e ∙ whole in
-    sym (take_all (n * i) chips (omega arith)) ∙ f ∙ ap (λ k. copies k piece) e

@@ -22,6 +22,7 @@ fn message_of(h: Phy, mac: &[u8]) -> [u8; 16]
 }
 
 // The header word: the message and its parity.
+#[tactic(auto, unfolding(format::specs::Header::header_word))]
 pub(crate) fn word_of(h: Phy, mac: &[u8]) -> [u8; 32]
     requires { length mac.now ≡ 10 }
     ensures { result ≡ header_word h mac.now }

@@ -22,8 +22,8 @@ fn write_codes(chips: &mut [u8], signs: &[bool])
     }
 }
 
-// Fills the chips with copies of a piece.
-fn fill_with<const N: usize>(chips: &mut [u8], piece: &[u8; N])
+// Writes copies of a piece.
+fn write_copies<const N: usize>(chips: &mut [u8], piece: &[u8; N])
     requires { (0 < N) × (length chips.old % N ≡ 0) }
     ensures { chips.new ≡ copies (length chips.old / N) piece.now }
 {
@@ -41,6 +41,6 @@ pub(crate) fn write_preamble(chips: &mut [u8], mode: Mode)
     let mut group = [0u8; 512];
     write_codes(&mut group, &[true, second, third, fourth]);
     let (sync, groups) = chips.split_at_mut(2048 * mode.channels());
-    fill_with(sync, signed(false));
-    fill_with(groups, &group);
+    write_copies(sync, signed(false));
+    write_copies(groups, &group);
 }

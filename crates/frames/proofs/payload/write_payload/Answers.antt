@@ -1,10 +1,12 @@
-use Rattle.std.proofs.Common.{◌≡◌, ◌*◌, length, sym, ◌∙◌, ap₂, mul-zero, arith}
+use Rattle.std.proofs.Common.{◌≡◌, ◌+◌, ◌*◌, ◌≤◌, length, sym, ◌∙◌, ap₂, mul-zero, arith}
 use Rattle.std.proofs.lemmas.List.{take_all}
 use Rattle.format.specs.Bits.{line}
 use Rattle.format.specs.Modes.{row}
-use Rattle.format.specs.Payload.{block_count, blocks}
+use Rattle.format.specs.Payload.{block_count, repeated, blocks}
 use Rattle.format.proofs.Lengths.{length_line}
-use Rattle.frames.proofs.BlockChips.{block_more}
+use Rattle.frames.specs.Blocks.{block_bits}
+use Rattle.frames.proofs.Fronts.{part_more}
+use Rattle.frames.proofs.BlockChips.{chips_long, blocks_more}
 use Rattle.frames.proofs.StuffBits.{blocks_carried}
 use Rattle.frames.proofs.payload.write_payload.Goals as goal
 
@@ -15,7 +17,10 @@ loop-block-init c = rw (mul-zero (512 * c.spread-spread.result))
 pub loop-block-preserved : goal.loop-block-preserved
 loop-block-preserved c =
     let os = c.new-carried.result.0 in
-    block_more c.loop-block.chips c.write_block.new.chips (line os) c.spread-spread.result c.loop-block.block _ (omega (arith, length_line c.new-carried.result.0)) (grind arith) c.write_block.ensures c.loop-block.invariant
+    let n = c.spread-spread.result in
+    let b = c.loop-block.block in
+    let fits : 508 * c.loop-block.block + 508 ≤ length (line c.new-carried.result.0) = omega (arith, length_line c.new-carried.result.0) in
+    rw c.write_block.ensures (part_more c.loop-block.chips (repeated n (block_bits b (line os))) _ _ (512 * n) b _ (chips_long n b (line os) fits) (grind arith) (blocks_more n b (line os)) c.loop-block.invariant)
 
 pub returns : goal.returns
 returns c =
