@@ -1,10 +1,10 @@
 -- What is known of a frame that is let in.
-use Rattle.std.proofs.Common.{◌≡◌, ℕ, ◌<◌, ◌≤◌, Bool, true, false, cond, eqb, leb, Some, None, Ok, Err, Option, Result, sym, refl, ap, ◌∙◌, arith}
-use Rattle.std.proofs.lemmas.Bool.{eqb-true, leb-true, le-leb, lt-leb, cond-true, cond-false}
+use Rattle.std.proofs.Common.{◌≡◌, ℕ, ◌≤◌, Bool, true, false, cond, eqb, leb, Some, None, Ok, Err, Option, Result, sym, refl, ap, ◌∙◌, arith}
+use Rattle.std.proofs.lemmas.Bool.{eqb-true, leb-true, le-leb, cond-true}
 use Rattle.format.specs.declared.mode.Mode.{Mode}
 use Rattle.format.specs.Frame.{frame_length}
 use Rattle.format.specs.declared.fault.DoorFault.{DoorFault}
-use Rattle.format.specs.declared.fault.DoorFault.TheVariants.{Mac, Body, Room}
+use Rattle.format.specs.declared.fault.DoorFault.TheVariants.{Mac, Body}
 use Rattle.frames.specs.Writing.{sized, roomed}
 
 -- two tests that both have to pass
@@ -19,9 +19,6 @@ sized_fits (Some k) m mac body e =
     let passed = both_passed (eqb mac 10) (leb body 2048) m k Body Mac e in
     (eqb-true mac 10 passed.0, leb-true body 2048 passed.1)
 
--- whether there is room, for a mode that was let in
+-- there is room, for a mode that was let in
 pub roomed_yes : (a : Result Mode DoorFault) (m : Mode) (body chips : ℕ) → Ok m ≡ a → frame_length m body ≤ chips → Ok m ≡ roomed a body chips
 roomed_yes a m body chips e h = sym (cond-true _ _ _ (le-leb (frame_length m body) chips h)) ∙ ap (λ r. roomed r body chips) e
-
-pub roomed_no : (a : Result Mode DoorFault) (m : Mode) (body chips : ℕ) → Ok m ≡ a → chips < frame_length m body → Err Room ≡ roomed a body chips
-roomed_no a m body chips e h = sym (cond-false _ _ _ (lt-leb (frame_length m body) chips h)) ∙ ap (λ r. roomed r body chips) e

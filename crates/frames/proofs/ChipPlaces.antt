@@ -1,5 +1,5 @@
 -- Which chip stands at a place.
-use Rattle.std.proofs.Common.{◌≡◌, ℕ, zero, suc, ◌+◌, ◌*◌, ◌/◌, ◌%◌, ◌^◌, ◌<◌, List, [], ◌∷◌, ◌++◌, length, get_or, replicate, sym, refl, ap, ◌∙◌, ap₂, le_of_suc-le-suc, not-suc-le-zero, suc-add, mul-zero, mul-suc, arith}
+use Rattle.std.proofs.Common.{◌≡◌, ℕ, zero, suc, ◌+◌, ◌*◌, ◌/◌, ◌%◌, ◌^◌, ◌<◌, List, [], ◌∷◌, ◌++◌, length, get_or, replicate, sym, refl, ap, ◌∙◌, ap₂, le_of_suc-le-suc, not-suc-le-zero, mul-zero, mul-suc, arith}
 use lib.Bits.{bit_and, bit_xor}
 use Rattle.std.proofs.lemmas.Nat.{and_mask}
 use Rattle.std.proofs.lemmas.List.{get_or_append_left, get_or-append_right, get_or-replicate, length-replicate}
@@ -10,18 +10,13 @@ use Rattle.format.specs.Frame.{added, header_chips}
 use Rattle.format.proofs.Lengths.{length_drawn, length_line, length_repeated}
 use Rattle.format.proofs.BitPlaces.{line_at}
 
-pub after_one : (n r : ℕ) → advanced (after n r) ≡ after (n + 1) r
-unfolding after
-after_one zero r = refl
-after_one (suc n) r = after_one n (advanced r) ∙ ap (λ k. after k r) (sym (suc-add n 1))
-
-pub drawn_at : (n r i : ℕ) → i < n → get_or (drawn n r) i 0 ≡ next (after i r)
+drawn_at : (n r i : ℕ) → i < n → get_or (drawn n r) i 0 ≡ next (after i r)
 unfolding drawn after
 drawn_at zero r i h = absurd (not-suc-le-zero h)
 drawn_at (suc n) r zero h = refl
 drawn_at (suc n) r (suc i) h = drawn_at n (advanced r) i (le_of_suc-le-suc h)
 
-pub added_at : (xs ys : List ℕ) (i : ℕ) → i < length xs → i < length ys → get_or (added xs ys) i 0 ≡ bit_xor (get_or xs i 0) (get_or ys i 0)
+added_at : (xs ys : List ℕ) (i : ℕ) → i < length xs → i < length ys → get_or (added xs ys) i 0 ≡ bit_xor (get_or xs i 0) (get_or ys i 0)
 unfolding added
 added_at [] ys i h k = absurd (not-suc-le-zero h)
 added_at (x ∷ xs) [] i h k = absurd (not-suc-le-zero k)

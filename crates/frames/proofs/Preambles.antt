@@ -1,15 +1,11 @@
 -- The preamble, code by code.
-use Rattle.std.proofs.Common.{◌≡◌, ℕ, zero, suc, ◌+◌, ◌*◌, ◌/◌, ◌%◌, ◌<◌, ◌≤◌, Bool, true, false, List, [], ◌∷◌, ◌++◌, length, get_or, take, sym, refl, ap, ◌∙◌, ap₂, add-one, arith}
-use borrow.Rule.Slice.PartMut.{put_mid}
-use Rattle.std.proofs.Math.Nat.{div-add-mod}
-use Rattle.std.proofs.lemmas.List.{append_assoc, append-nil, take_more, take_all}
+use Rattle.std.proofs.Common.{◌≡◌, ℕ, zero, suc, ◌+◌, ◌*◌, ◌<◌, Bool, true, false, List, [], ◌∷◌, ◌++◌, length, get_or, take, sym, refl, ap, ◌∙◌, ap₂, add-one}
+use Rattle.std.proofs.lemmas.List.{append_assoc, append-nil, take_more}
 use Rattle.format.specs.declared.mode.Mode.{Mode}
 use Rattle.format.specs.declared.mode.Mode.TheVariants.{M1, M2, M3, M4, M5, M6, M7}
 use Rattle.format.specs.Codes.{code_a}
 use Rattle.format.specs.Modes.{row}
 use Rattle.format.specs.Frame.{signed, all_signed, copies, group, preamble}
-use Rattle.format.proofs.Lengths.{length_signed}
-use Rattle.frames.proofs.Fronts.{piece_more}
 
 -- one copy more behind the others
 pub copies_more : (n : ℕ) (xs : List ℕ) → copies n xs ++ xs ≡ copies (n + 1) xs

@@ -1,10 +1,11 @@
 -- Stuff bits: zeros with the sequence added are the sequence.
-use Rattle.std.proofs.Common.{◌≡◌, ℕ, zero, suc, ◌+◌, ◌-◌, ◌*◌, ◌/◌, ◌%◌, ◌≤◌, List, [], ◌∷◌, ◌++◌, length, drop, replicate, sym, refl, ap, ◌∙◌, ap₂, suc-add, zero-add, arith}
+use Rattle.std.proofs.Common.{◌≡◌, ℕ, zero, suc, ◌+◌, ◌-◌, ◌*◌, ◌≤◌, List, ◌∷◌, ◌++◌, length, drop, replicate, sym, refl, ap, ◌∙◌, ap₂, suc-add, zero-add, arith}
 use Rattle.std.proofs.lemmas.List.{length-append, append_assoc, take-append-le, drop-append-le, length-drop}
-use Rattle.format.specs.Sequences.{value, next, advanced, after, drawn, key, mixed}
+use Rattle.format.specs.Sequences.{next, advanced, after, drawn, key, mixed}
 use Rattle.format.specs.Bits.{bits, line}
 use Rattle.format.specs.Payload.{word_count, coded_octets, block_count, stuff_count, coded, repeated, pilots, blocks}
-use Rattle.format.proofs.Registers.{next_below}
+use Rattle.format.proofs.LineBits.{bits_value, line_append}
+use Rattle.format.proofs.Scrambling.{drawn_bits}
 use Rattle.format.proofs.Lengths.{length_line, length_drawn, length_coded, words_hold, blocks_hold}
 use Rattle.frames.specs.Blocks.{carried}
 
@@ -13,27 +14,12 @@ unfolding drawn after
 drawn_add zero n r = ap (λ k. drawn k r) (zero-add n)
 drawn_add (suc m) n r = ap (λ k. drawn k r) (suc-add m n) ∙ ap (λ l. next r ∷ l) (drawn_add m n (advanced r))
 
-bits_value : (n r : ℕ) → bits n (value (drawn n r)) ≡ drawn n r
-unfolding bits drawn
-bits_value zero r = refl
-bits_value (suc n) r =
-    let v = value (drawn n (advanced r)) in
-    let small = next_below r in
-    let low : (next r + 2 * v) % 2 ≡ next r = omega arith in
-    let high : (next r + 2 * v) / 2 ≡ v = omega arith in
-    ap₂ (λ a o. a ∷ bits n o) low high ∙ ap (λ l. next r ∷ l) (bits_value n (advanced r))
-
-line_append : (xs ys : List ℕ) → line (xs ++ ys) ≡ line xs ++ line ys
-unfolding line
-line_append [] ys = refl
-line_append (x ∷ xs) ys = ap (λ l. bits 8 x ++ l) (line_append xs ys) ∙ sym (append_assoc (bits 8 x) (line xs) (line ys))
-
 pub line_zeros : (n r : ℕ) → line (mixed r (replicate n 0)) ≡ drawn (8 * n) r
 unfolding line mixed key drawn
 line_zeros zero r = refl
 line_zeros (suc n) r =
     let split : 8 + 8 * n ≡ 8 * suc n = omega arith in
-    ap₂ ◌++◌ (bits_value 8 r) (line_zeros n (after 8 r)) ∙ sym (drawn_add 8 (8 * n) r) ∙ ap (λ k. drawn k r) split
+    ap₂ ◌++◌ (ap (λ k. bits k (key r)) (sym (length_drawn 8 r)) ∙ bits_value (drawn 8 r) (drawn_bits 8 r)) (line_zeros n (after 8 r)) ∙ sym (drawn_add 8 (8 * n) r) ∙ ap (λ k. drawn k r) split
 
 -- the blocks take only the bits that they carry
 blocks_front : (n k : ℕ) (xs ys : List ℕ) → 508 * k ≤ length xs → blocks n k (xs ++ ys) ≡ blocks n k xs

@@ -12,14 +12,6 @@ use crate::preamble::write_preamble;
 use crate::scrambled::Scrambled;
 use format::{DoorFault, Mode, Phy, Register, frame_length};
 
-// How many chips a frame has, by its mode and the octets of its body.
-fn length_of(mode: Mode, body: usize) -> usize
-    requires { body ≤ 2048 }
-    ensures { result ≡ frame_length mode body }
-{
-    frame_length(mode, body as u16)
-}
-
 // The mode of a frame, or the first reason to refuse it but for the room that it wants.
 fn admit(mode: u8, mac: usize, body: usize) -> Result<Mode, DoorFault>
     ensures { result ≡ sized (mode_of mode) mac body }
@@ -62,6 +54,10 @@ pub fn write_frame(
     ensures body { body.new ≡ body.old }
 {
     let m = admit(mode, mac.len(), body.len())?;
+    let n = frame_length(m, body.len() as u16);
+    if chips.len() < n {
+        return Err(DoorFault::Room);
+    }
     let phy = Phy {
         seed: seed % 16,
         aggregation,
@@ -70,10 +66,6 @@ pub fn write_frame(
     };
     let word = word_of(phy, mac);
     let guard = Scrambled::new(body, seed % 16);
-    let n = length_of(m, guard.view().len());
-    if chips.len() < n {
-        return Err(DoorFault::Room);
-    }
     write_parts(&mut chips[..n], m, &word, guard.view(), guard.behind());
     Ok(n)
 }

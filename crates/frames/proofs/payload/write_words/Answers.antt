@@ -1,4 +1,4 @@
-use Rattle.std.proofs.Common.{◌≡◌, ◌+◌, ◌*◌, ◌<◌, ◌++◌, min, length, take, refl, ap, ◌∙◌, arith}
+use Rattle.std.proofs.Common.{◌≤◌, ◌≡◌, ◌*◌, ◌<◌, min, length, take, refl, ap, ◌∙◌, arith}
 use Rattle.std.proofs.lemmas.List.{length-drop}
 use Rattle.format.specs.Payload.{coded}
 use Rattle.frames.proofs.BodyWords.{piece_is, left_is, word_more, words_all}
@@ -8,9 +8,7 @@ pub loop-k-init : goal.loop-k-init
 unfolding coded
 loop-k-init c =
     let none : c.into_iter-k-iterator.result.count ≡ 0 = cc in
-    let size : c.into_iter-k-iterator.result.iter.size ≡ 224 = cc in
-    let all : c.into_iter-k-iterator.result.iter.rest.now ≡ c.args.body.now = cc in
-    rw none record { size = size; rest = all; few = omega arith; front = refl }
+    rw none record { size = cc; rest = cc; few = omega arith; front = refl }
 
 pub loop-k-preserved : goal.loop-k-preserved
 loop-k-preserved c =
@@ -19,22 +17,18 @@ loop-k-preserved c =
     let k = c.loop-k.k-iterator.count in
     let message = c.in-Some.message.now in
     let left = c.next.new.self.iter.rest.now in
-    let parts : c.loop-k.k-iterator.iter.rest.now ≡ c.in-Some.message.now ++ c.next.new.self.iter.rest.now = c.in-Some.ensures.steps.0.1.0 in
-    let many : length c.in-Some.message.now ≡ min 224 (length c.loop-k.k-iterator.iter.rest.now) = c.in-Some.ensures.steps.0.1.1 ∙ ap (λ n. min n (length rest)) c.loop-k.invariant.size in
-    let some : 0 < length c.loop-k.k-iterator.iter.rest.now = c.in-Some.ensures.steps.0.1.2 in
-    let place : c.in-Some.k ≡ c.loop-k.k-iterator.count = c.in-Some.ensures.steps.1 in
-    let next : c.next.new.self.count ≡ c.loop-k.k-iterator.count + 1 = c.in-Some.ensures.steps.2 in
-    let within : 224 * c.loop-k.k-iterator.count < length c.args.body.now = omega (arith, ap length c.loop-k.invariant.rest, length-drop (224 * c.loop-k.k-iterator.count) c.args.body.now) in
-    rw (place, next) record {
-      size = c.in-Some.ensures.steps.0.0 ∙ c.loop-k.invariant.size;
-      rest = left_is rest message left body k parts many c.loop-k.invariant.rest;
+    let step = c.in-Some.ensures.steps in
+    let many : length c.in-Some.message.now ≡ min 224 (length c.loop-k.k-iterator.iter.rest.now) = step.0.1.1 ∙ ap (λ n. min n (length rest)) c.loop-k.invariant.size in
+    let within : 224 * c.loop-k.k-iterator.count < length c.args.body.now = omega (arith, step.0.1.2, ap length c.loop-k.invariant.rest, length-drop (224 * c.loop-k.k-iterator.count) c.args.body.now) in
+    rw (step.1, step.2) record {
+      size = step.0.0 ∙ c.loop-k.invariant.size;
+      rest = left_is rest message left body k step.0.1.0 many c.loop-k.invariant.rest;
       few = omega arith;
-      front = word_more c.loop-k.octets c.write_word.new.word message body k _ (omega arith) (omega arith) (piece_is rest message left parts many ∙ ap (take 224) c.loop-k.invariant.rest)
+      front = word_more c.loop-k.octets c.write_word.new.word message body k _ (omega arith) (omega arith) (piece_is rest message left step.0.1.0 many ∙ ap (take 224) c.loop-k.invariant.rest)
           c.write_word.ensures c.loop-k.invariant.front;
     }
 
 pub returns : goal.returns
 returns c =
-    let none : length c.loop-k.k-iterator.iter.rest.now ≡ 0 = c.in-None.ensures.steps.0.1.0 in
-    words_all c.loop-k.octets c.args.body.now c.loop-k.k-iterator.count
-    (omega (arith, ap length c.loop-k.invariant.rest, length-drop (224 * c.loop-k.k-iterator.count) c.args.body.now, none)) c.loop-k.invariant.few (omega arith) c.loop-k.invariant.front
+    let end : length c.args.body.now ≤ 224 * c.loop-k.k-iterator.count = omega (arith, c.in-None.ensures.steps.0.1.0, ap length c.loop-k.invariant.rest, length-drop (224 * c.loop-k.k-iterator.count) c.args.body.now) in
+    words_all c.loop-k.octets c.args.body.now c.loop-k.k-iterator.count end c.loop-k.invariant.few (omega arith) c.loop-k.invariant.front
