@@ -16,7 +16,8 @@ fn message_of(h: Phy, mac: &[u8]) -> [u8; 16]
     let (phy, fields) = front.split_at_mut(4);
     phy.copy_from_slice(&pack(h));
     fields.copy_from_slice(mac);
-    check.copy_from_slice(&header_check(front, &mut [false; 112]).unwrap());
+    let sum = header_check(front, &mut [false; 112]).unwrap();
+    check.copy_from_slice(&sum);
     mix(&mut message[4..], Register::scrambler(h.seed));
     message
 }

@@ -65,7 +65,7 @@ pub fn write_frame(
         reserved: 0,
     };
     let word = word_of(phy, mac);
-    let guard = Scrambled::new(body, seed % 16);
+    let guard = Scrambled::new(body, phy.seed);
     write_parts(&mut chips[..n], m, &word, guard.view(), guard.behind());
     Ok(n)
 }
