@@ -51,7 +51,7 @@ impl Carried {
     }
 
     // Writes a block, each bit as often as it is sent.
-    fn write_block(&self, block: usize, chips: &mut [u8], spread: usize)
+    fn write_block(&self, chips: &mut [u8], block: usize, spread: usize)
         requires { (block < 35) × (0 < spread) × (length chips.old ≡ 512 * spread) }
         ensures { chips.new ≡ repeated spread (block_bits block (line self.now.0)) }
     {
@@ -70,6 +70,6 @@ pub(crate) fn write_payload(chips: &mut [u8], mode: Mode, body: &[u8], behind: R
     let spread = mode.spread();
     for block in 0..block_count(body.len() as u16) {
         let part = &mut chips[512 * spread * block..512 * spread * (block + 1)];
-        carried.write_block(block, part, spread);
+        carried.write_block(part, block, spread);
     }
 }

@@ -12,7 +12,7 @@ pub write_parts-requires : goal.write_parts-requires
 write_parts-requires c =
     let few = (sized_fits (mode_of c.args.mode) c.in_ok-m.m (length c.args.mac.now) (length c.args.body.now) c.in_ok-m.ensures).1 in
     let long : length c.view.result.now ≡ length c.args.body.now = ap length (c.view.ensures ∙ c.new-guard.ensures.scrambled) ∙ length_mixed _ c.args.body.now in
-    rw long (few, length-take-le c.frame_length-n.result c.args.chips.now c.if-chips-n.false ∙ c.frame_length-n.ensures)
+    rw long (few, length-take-le c.frame_length-n.result c.args.chips.now (omega arith) ∙ c.frame_length-n.ensures)
 
 pub returns-clause-chips : goal.returns-clause-chips
 returns-clause-chips c =
