@@ -9,32 +9,17 @@ impl PreambleFault {
     pub fn refusal(self) -> Refusal
         ensures { result ≡ preamble_refusal self }
     {
-        match self {
-            PreambleFault::Unreadable(code) => Refusal {
-                number: 9,
-                layer: Layer::Preamble,
-                place: code,
-            },
-            PreambleFault::Unsigned => Refusal {
-                number: 10,
-                layer: Layer::Preamble,
-                place: 0,
-            },
-            PreambleFault::Estimation => Refusal {
-                number: 11,
-                layer: Layer::Preamble,
-                place: 0,
-            },
-            PreambleFault::NoMode => Refusal {
-                number: 12,
-                layer: Layer::Preamble,
-                place: 0,
-            },
-            PreambleFault::Channels => Refusal {
-                number: 13,
-                layer: Layer::Preamble,
-                place: 0,
-            },
+        let (number, place) = match self {
+            PreambleFault::Unreadable(code) => (9, code),
+            PreambleFault::Unsigned => (10, 0),
+            PreambleFault::Estimation => (11, 0),
+            PreambleFault::NoMode => (12, 0),
+            PreambleFault::Channels => (13, 0),
+        };
+        Refusal {
+            number,
+            layer: Layer::Preamble,
+            place,
         }
     }
 }
@@ -43,27 +28,16 @@ impl HeaderFault {
     pub fn refusal(self) -> Refusal
         ensures { result ≡ header_refusal self }
     {
-        match self {
-            HeaderFault::Word(_) => Refusal {
-                number: 14,
-                layer: Layer::Header,
-                place: 0,
-            },
-            HeaderFault::Check => Refusal {
-                number: 15,
-                layer: Layer::Header,
-                place: 0,
-            },
-            HeaderFault::Reserved => Refusal {
-                number: 16,
-                layer: Layer::Header,
-                place: 0,
-            },
-            HeaderFault::Length => Refusal {
-                number: 17,
-                layer: Layer::Header,
-                place: 0,
-            },
+        let number = match self {
+            HeaderFault::Word(_) => 14,
+            HeaderFault::Check => 15,
+            HeaderFault::Reserved => 16,
+            HeaderFault::Length => 17,
+        };
+        Refusal {
+            number,
+            layer: Layer::Header,
+            place: 0,
         }
     }
 }
@@ -72,17 +46,14 @@ impl PayloadFault {
     pub fn refusal(self) -> Refusal
         ensures { result ≡ payload_refusal self }
     {
-        match self {
-            PayloadFault::Ends => Refusal {
-                number: 18,
-                layer: Layer::Payload,
-                place: 0,
-            },
-            PayloadFault::Word(place, _) => Refusal {
-                number: 19,
-                layer: Layer::Payload,
-                place,
-            },
+        let (number, place) = match self {
+            PayloadFault::Ends => (18, 0),
+            PayloadFault::Word(place, _) => (19, place),
+        };
+        Refusal {
+            number,
+            layer: Layer::Payload,
+            place,
         }
     }
 }
