@@ -1,6 +1,7 @@
 -- What the door has seen to, and a read from what is read behind it.
-use Rattle.std.proofs.Common.{◌≡◌, ℕ, ◌-◌, Bool, true, false, cond, ◌&&◌, eqb, leb, List, [], ◌++◌, length, drop, replicate, Some, None, Ok, Err, Option, Result, sym, refl, ap, ◌∙◌, subst, arith}
-use Rattle.std.proofs.lemmas.List.{drop_all}
+use Rattle.std.proofs.Common.{◌≡◌, ℕ, ◌-◌, ◌≤◌, Bool, true, false, cond, ◌&&◌, eqb, leb, List, [], ◌++◌, length, take, drop, replicate, Some, None, Ok, Err, Option, Result, sym, refl, ap, ◌∙◌, subst, arith}
+use Rattle.std.specs.Result.{is_err}
+use Rattle.std.proofs.lemmas.List.{length-append, length-replicate, length-take-le}
 use Rattle.std.proofs.lemmas.Bool.{and_parts, leb-true, eqb-true}
 use Rattle.std.proofs.lemmas.Bool.Decides.{nat_tests}
 use Rattle.words.specs.declared.fault.WordFault.{WordFault}
@@ -69,21 +70,28 @@ part_stands n w body mac e p h =
 
 -- ---- the buffers
 
-pub passed_on : (n : ℕ) (w body mac w' body' mac' : List ℕ) → w' ≡ w → length body' ≡ length body → length mac' ≡ length mac → Passed n w body mac → Passed n w' body' mac'
-passed_on n w body mac w' body' mac' same b m p =
-    subst (λ x. Passed n x body' mac') (sym same)
-    (record { some = p.some; few = p.few; roomy = omega (arith, p.roomy); ten = m ∙ p.ten; long = p.long; short = p.short; chips = p.chips })
+-- zeros fill the front of the body buffer
+pub zeroed : (body front : List ℕ) → 2048 ≤ length body → front ≡ replicate (length (take 2048 body)) 0 → front ++ drop 2048 body ≡ replicate 2048 0 ++ drop 2048 body
+zeroed body front h e = ap (λ l. l ++ drop 2048 body) (e ∙ ap (λ n. replicate n 0) (length-take-le 2048 body h))
 
 -- behind its zeros a buffer is as it was
 pub behind : (body body' : List ℕ) → body' ≡ replicate 2048 0 ++ drop 2048 body → drop 2048 body' ≡ drop 2048 body
 behind body body' e = ap (drop 2048) e ∙ behind_zeros 2048 (drop 2048 body)
 
-pub blank : (body mac body' mac' : List ℕ) → length mac ≡ 10 → body' ≡ replicate 2048 0 ++ drop 2048 body → mac' ≡ replicate 10 0 ++ drop 10 mac → Blank body' mac'
-blank body mac body' mac' ten b m =
-    record {
-      no_body = b ∙ ap (λ l. replicate 2048 0 ++ l) (sym (behind body body' b));
-      no_mac = m ∙ ap (λ l. replicate 10 0 ++ l) (drop_all 10 mac (omega arith));
-    }
+-- a buffer of the same length has room
+pub roomy_on : (body front later : List ℕ) → 2048 ≤ length body → length front ≡ length (take 2048 body) → length later ≡ length (front ++ drop 2048 body) → 2048 ≤ length later
+roomy_on body front later h f l = omega (arith, length-append front (drop 2048 body), length-take-le 2048 body h)
+
+-- what the door has seen to holds of the cleared buffers
+pub cleared_on : (n : ℕ) (w body mac w' body' mac' : List ℕ) → w' ≡ w → body' ≡ replicate 2048 0 ++ drop 2048 body → mac' ≡ replicate (length mac) 0 → Passed n w body mac
+    → Passed n w' body' mac' × Blank body' mac'
+cleared_on n w body mac w' body' mac' same b m p =
+    let zeros = length-replicate {A = ℕ} 2048 0 in
+    let roomy : 2048 ≤ length body' = omega (arith, ap length b, length-append (replicate 2048 0) (drop 2048 body), zeros) in
+    let ten : length mac' ≡ 10 = ap length m ∙ length-replicate (length mac) 0 ∙ p.ten in (
+      subst (λ x. Passed n x body' mac') (sym same) (record { some = p.some; few = p.few; roomy = roomy; ten = ten; long = p.long; short = p.short; chips = p.chips }),
+      record { no_body = b ∙ ap (λ l. replicate 2048 0 ++ l) (sym (behind body body' b)); no_mac = m ∙ ap (λ k. replicate k 0) p.ten },
+    )
 
 -- ---- the read
 
@@ -124,6 +132,14 @@ module _ (n : ℕ) (w body mac body' mac' : List ℕ) (asked : List Asked) (answ
   mode_on : (p : Result Mode PreambleFault) → ByMode (a_read n w body' mac' asked answer body_then mac_then) p → ByMode (a_read n w body mac asked answer body_then mac_then) p
   mode_on (Err e) x = (turned_on (Preamble e) x.0, x.1)
   mode_on (Ok m) x = (x.0, x.1, x.2, x.3, word_on m x.1 x.2 x.0 x.4)
+
+pub cleared_err : (r : Result Delivery Fault) (body : List ℕ) → is_err r ≡ true → cleared r body ≡ replicate 2048 0 ++ drop 2048 body
+cleared_err (Ok d) body e = cc
+cleared_err (Err f) body e = refl
+
+pub cleared_ok : (r : Result Delivery Fault) (body : List ℕ) → is_err r ≡ false → cleared r body ≡ body
+cleared_ok (Ok d) body e = refl
+cleared_ok (Err f) body e = cc
 
 -- the door is passed, the buffers are cleared, and the frame is read
 pub received : {M : Type 0} (rule : Rule M) (s t : M) (n : ℕ) (w body mac w' body' mac' : List ℕ) (r : Result Delivery Fault) (body_then mac_then later : List ℕ)

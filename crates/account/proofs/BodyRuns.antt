@@ -1,20 +1,29 @@
 -- The body words of a window, one after the other: what holds once the first of them are read.
 use Rattle.std.proofs.Common.{◌≡◌, ℕ, ◌+◌, ◌-◌, ◌*◌, ◌<◌, ◌≤◌, List, [], ◌∷◌, ◌++◌, map, length, take, drop, Ok, Err, Result, sym, refl, ap, ◌∙◌, subst, ap₂, append_assoc, append-nil, arith}
 use Rattle.std.specs.List.{range_with_len}
-use Rattle.std.proofs.lemmas.List.{length-append, take_at, drop_at, drop-drop, drop_more, take-append-drop}
-use Rattle.std.proofs.lemmas.Slice.{drop-append-drop}
+use Rattle.std.proofs.lemmas.List.{length-append, take_at, drop_at, drop-drop, drop_all, drop_more, take-append-drop}
 use Rattle.std.proofs.lemmas.List.FromFn.{map-range_with_len_more, length-map-range_with_len, get_or-map-range_with_len, take-map-range_with_len}
 use Rattle.mending.specs.Menders.{Rule}
 use Rattle.format.specs.declared.mode.Mode.{Mode}
 use Rattle.format.specs.Payload.{word_count}
 use Rattle.format.specs.Reading.{word_read}
+use Rattle.words.specs.declared.fault.WordFault.{WordFault}
 use Rattle.faults.specs.declared.fault.PayloadFault.{PayloadFault}
+use Rattle.faults.specs.declared.fault.PayloadFault.TheVariants.{Word as payload_word}
 use Rattle.account.specs.Asks.{Asked, Chain, One, Unmended, Words}
 use Rattle.account.specs.Reads.{messages_of, words_read}
-use Rattle.account.specs.Answers.{Put, WordAs, BodyAs}
+use Rattle.account.specs.Answers.{word_answer, Put, WordAs, BodyAs}
 use Rattle.account.proofs.OneWord.{mended_one}
-use Rattle.account.proofs.BodyWords.{ok_count, err_count}
 use Rattle.account.proofs.WordRuns.{chain_append, words_append, words_behind, words_few, messages_long}
+
+-- a body word's count, from its answer
+ok_count : (place n : ℕ) (c : Result ℕ WordFault) → Ok n ≡ word_answer place c → c ≡ Ok n
+ok_count place n (Ok k) e = cc
+ok_count place n (Err f) e = cc
+
+err_count : (place : ℕ) (f : PayloadFault) (c : Result ℕ WordFault) → Err f ≡ word_answer place c → (e : WordFault) × (c ≡ Err e) × (f ≡ payload_word place e)
+err_count place f (Ok k) e = absurd (cc)
+err_count place f (Err g) e = (g, refl, cc)
 
 pub messages_append : (vs us : List (List ℕ)) → messages_of (vs ++ us) ≡ messages_of vs ++ messages_of us
 messages_append [] us = refl
@@ -87,15 +96,14 @@ module _ {M : Type 0} (rule : Rule M) (s : M) (m : Mode) (L : ℕ) (w body : Lis
         }
 
     -- the next word is not mended: the words behind it are not read
-    pub stops : (f : PayloadFault) → L ≤ 2048 → WordAs rule t (word_read m L w k) k (Err f) then after u → BodyAs rule s (words_read m L w) (Err f) body after u
-    stops f short word =
+    pub stops : (f : PayloadFault) → WordAs rule t (word_read m L w k) k (Err f) then after u → BodyAs rule s (words_read m L w) (Err f) after u
+    stops f word =
         let v = word.word in
         let before = map (word_read m L w) (range_with_len 0 k) in
         let split = split_words (word_read m L w) (word_count L) k h in
         let cause = err_count (k + 1) f word.count word.answers in
         let one = mended_one rule t u (word_read m L w k) v word.count word.mended in
         let asks = so.asks ++ one.0 in
-        let put = subst (λ c. Put c (224 * k) (take (length v - 16) v) then after) cause.1 word.put in
         let at : 1 + length before ≡ k + 1 = omega (arith, length-map-range_with_len (word_read m L w) 0 k) in
         let fault : Result ℕ Unmended = Err (record { place = k + 1; cause = cause.0 }) in
         let here : Words (1 + length before) (word_read m L w k ∷ split.0) one.0 fault [] [] =
@@ -108,12 +116,15 @@ module _ {M : Type 0} (rule : Rule M) (s : M) (m : Mode) (L : ℕ) (w body : Lis
           words = so.words ++ [];
           all = subst (λ ws. Words 1 ws asks fault (so.words ++ []) []) (sym split.1) all;
           answers = ap Err cause.2;
-          filled = ap (drop 2048) (put ∙ so.filled) ∙ drop-append-drop (length (messages_of so.words)) body (messages_of so.words) 2048 (omega (arith, full k total then t so h)) refl;
+          filled = tt;
         }
 
   -- all are mended
-  pub done : (k total : ℕ) (after : List ℕ) (t : M) → k ≡ word_count L → SoFar rule s m L w k total body after t → BodyAs rule s (words_read m L w) (Ok total) body after t
-  done k total after t e so =
+  pub done : (k total : ℕ) (after : List ℕ) (t : M) → k ≡ word_count L → length body ≡ L → SoFar rule s m L w k total body after t
+      → BodyAs rule s (words_read m L w) (Ok total) after t
+  done k total after t e long so =
+      let front = messages_of so.words in
+      let all : length front ≡ L = messages_long m L w k so.asks total so.words [] so.all ∙ omega arith in
       record {
         asks = so.asks;
         chain = so.chain;
@@ -121,5 +132,5 @@ module _ {M : Type 0} (rule : Rule M) (s : M) (m : Mode) (L : ℕ) (w body : Lis
         words = so.words;
         all = subst (λ c. Words 1 (map (word_read m L w) (range_with_len 0 c)) so.asks (Ok total) so.words []) e so.all;
         answers = refl;
-        filled = so.filled;
+        filled = so.filled ∙ ap (λ l. front ++ l) (drop_all (length front) body (omega arith)) ∙ append-nil front;
       }

@@ -5,7 +5,6 @@ pub mod DeliveredFrame
 pub mod ReadClaims
 pub mod OneWord
 pub mod WordRuns
-pub mod BodyWords
 pub mod BodyRuns
 pub mod Zeros
 pub mod PayloadRuns

@@ -1,15 +1,13 @@
 -- Mending one word, as the account of it.
-use Rattle.std.proofs.Common.{◌≡◌, ℕ, ◌-◌, Bool, true, false, List, [], ◌∷◌, ◌++◌, length, take, Result, sym, refl, subst, arith}
-use Rattle.std.proofs.lemmas.List.{take_at}
+use Rattle.std.proofs.Common.{◌≡◌, ℕ, Bool, true, false, List, [], ◌∷◌, Result, refl, subst}
 use Rattle.words.specs.declared.fault.WordFault.{WordFault}
 use Rattle.words.specs.Coder.{is_codeword}
 use Rattle.mending.specs.Menders.{Rule}
 use Rattle.mending.specs.Mending.{MendedBy, Mended}
 use Rattle.faults.specs.declared.fault.HeaderFault.{HeaderFault}
-use Rattle.faults.specs.declared.fault.PayloadFault.{PayloadFault}
 use Rattle.account.specs.Asks.{Asked, Chain, OneBy, One}
 use Rattle.account.specs.declared.head.Head.{Head}
-use Rattle.account.specs.Answers.{header_answer, HeaderAs, word_answer, FrontAs}
+use Rattle.account.specs.Answers.{header_answer, HeaderAs}
 
 module _ {M : Type 0} (rule : Rule M) where
   one_by : (b : Bool) (s t : M) (w v : List ℕ) (r : Result ℕ WordFault) → MendedBy rule b s w r v t → (asks : List Asked) × Chain rule s asks t × OneBy b w asks r v []
@@ -25,11 +23,3 @@ module _ {M : Type 0} (rule : Rule M) where
   header_as s t w read v n r is h e =
       let one = mended_one s t read v n (subst (λ x. Mended rule s x n v t) is h) in
       record { asks = one.0; chain = one.1; count = n; word = v; one = one.2; answers = e }
-
-  -- a word that was mended in the front of a room
-  pub front_as : (s t : M) (room v rest : List ℕ) (size : ℕ) (n : Result ℕ WordFault) (r : Result ℕ PayloadFault) → length v ≡ size
-      → Mended rule s (take (size - 0) room) n v t → r ≡ word_answer 0 n → FrontAs rule s (take size room) r (take size (v ++ rest)) t
-  front_as s t room v rest size n r long h e =
-      let all : size - 0 ≡ size = omega arith in
-      subst (λ x. FrontAs rule s (take size room) r x t) (sym (take_at v rest size long))
-      (record { count = n; mended = subst (λ k. Mended rule s (take k room) n v t) all h; answers = e })

@@ -48,17 +48,6 @@ abbrev pub word_answer : ℕ → Result ℕ WordFault → Result ℕ PayloadFaul
 word_answer place (Ok n) = Ok n
 word_answer place (Err e) = Err (payload_word place e)
 
--- a word w, which is v then, was mended, if need be; a cause has no place yet
-pub record FrontAs {M : Type 0} (rule : Rule M) (s : M) (w : List ℕ) (r : Result ℕ PayloadFault) (v : List ℕ) (t : M) : Type 0 where
-  pub count : Result ℕ WordFault
-  pub mended : Mended rule s w count v t
-  pub answers : r ≡ word_answer 0 count
-
--- a word's fault, with the word's place
-abbrev pub at_place : ℕ → PayloadFault → PayloadFault
-at_place place Ends = Ends
-at_place place (payload_word none e) = payload_word place e
-
 -- the message of a word that is mended stands in the buffer from a place on; one that is not leaves the buffer as it was
 abbrev pub Put : Result ℕ WordFault → ℕ → List ℕ → List ℕ → List ℕ → Type 0
 Put (Ok n) at message body after = after ≡ take at body ++ (message ++ drop (at + length message) body)
@@ -76,19 +65,19 @@ abbrev pub body_answer : Result ℕ Unmended → Result ℕ PayloadFault
 body_answer (Ok n) = Ok n
 body_answer (Err u) = Err (payload_word u.place u.cause)
 
--- the body words ws were mended, if need be, in line order: once all are, their messages stand in front of the buffer
-abbrev pub Filled : Result ℕ Unmended → List (List ℕ) → List ℕ → List ℕ → Type 0
-Filled (Ok n) vs body after = after ≡ messages_of vs ++ drop (length (messages_of vs)) body
-Filled (Err u) vs body after = drop 2048 after ≡ drop 2048 body
+-- the body words ws were mended, if need be, in line order: once all are, their messages fill the body
+abbrev pub Filled : Result ℕ Unmended → List (List ℕ) → List ℕ → Type 0
+Filled (Ok n) vs body = body ≡ messages_of vs
+Filled (Err u) vs body = Unit {0}
 
-pub record BodyAs {M : Type 0} (rule : Rule M) (s : M) (ws : List (List ℕ)) (r : Result ℕ PayloadFault) (body after : List ℕ) (t : M) : Type 0 where
+pub record BodyAs {M : Type 0} (rule : Rule M) (s : M) (ws : List (List ℕ)) (r : Result ℕ PayloadFault) (body : List ℕ) (t : M) : Type 0 where
   pub asks : List Asked
   pub chain : Chain rule s asks t
   pub count : Result ℕ Unmended
   pub words : List (List ℕ)
   pub all : Words 1 ws asks count words []
   pub answers : r ≡ body_answer count
-  pub filled : Filled count words body after
+  pub filled : Filled count words body
 
 -- once all body words are mended, the body stands in front of the buffer with the scrambler's sequence taken off
 abbrev pub Plain : Result ℕ Unmended → ℕ → ℕ → List (List ℕ) → List ℕ → List ℕ → Type 0

@@ -10,7 +10,7 @@ use windows::first_bad_chip;
 pub fn admit(n: u8, chips: &[u8], body: &[u8], mac: &[u8]) -> Result<(), DoorFault>
     ensures { result ≡ admitted (door_row n chips.now body.now mac.now) }
 {
-    if n < 1 || n > 4 {
+    if !(1..=4).contains(&n) {
         return Err(DoorFault::Channels);
     }
     if body.len() < 2048 || mac.len() != 10 {

@@ -7,29 +7,24 @@ ghost use Rattle.account.specs.Answers.{fields, HeaderAs};
 use account::Head;
 use faults::HeaderFault;
 use mending::{Mender, mend};
-use slicer::{header_word, open_header};
+use slicer::{Opened, header_word, open_header};
 use windows::Part;
 
 // A header word's fields, if its check is right, its reserved bits are zero and its length is one that can be sent.
 fn judge(word: &[u8; 32], mended: usize) -> Result<Head, HeaderFault>
     ensures { result ≡ fields word.now mended (header_row word.now) }
 {
-    let opened = open_header(word);
-    if !opened.right {
+    let Opened { phy, mac, right } = open_header(word);
+    if !right {
         return Err(HeaderFault::Check);
     }
-    if opened.phy.reserved != 0 {
+    if phy.reserved != 0 {
         return Err(HeaderFault::Reserved);
     }
-    if opened.phy.length > 2048 {
+    if phy.length > 2048 {
         return Err(HeaderFault::Length);
     }
-    let mac = opened.mac;
-    Ok(Head {
-        phy: opened.phy,
-        mac,
-        mended,
-    })
+    Ok(Head { phy, mac, mended })
 }
 
 // Reads a header from its chips: mends the word if need be, and judges it.

@@ -20,10 +20,7 @@ fn sign(code: Code) -> Option<bool>
 fn signed_mode(second: Code, third: Code, fourth: Code) -> Option<Mode>
     ensures { result ≡ mode_signed (sign_of second) (sign_of third) (sign_of fourth) }
 {
-    let a = sign(second)?;
-    let b = sign(third)?;
-    let c = sign(fourth)?;
-    Mode::from_signs(a, b, c)
+    Mode::from_signs(sign(second)?, sign(third)?, sign(fourth)?)
 }
 
 // The mode that the first SFD group tells, for n channels.
