@@ -25,6 +25,7 @@ use Rattle.faults.specs.Faults.{preamble_refusal, header_refusal, payload_refusa
 use Rattle.account.specs.Builds.{Build}
 use Rattle.account.specs.Reads.{Read, Accounted}
 use Rattle.account.specs.Claims.{OnlyOne, ReadRight}
+use Rattle.account.proofs.WordRuns.{chain_append}
 use Rattle.station.specs.declared.station.Station.{Station}
 use Rattle.station.specs.declared.tally.Row.{Row}
 use Rattle.station.specs.declared.tally.Tally.{Tally}
@@ -110,7 +111,7 @@ record TallyAt (past : List Call) (t : Tally) : Type 0 where
   pub rows_at : Holds t.rows no_row 7 (row_of past)
   pub counts_at : Holds t.refusals 0 19 (count_of past)
 
-row_path : {x y : Row} → x.windows ≡ y.windows → x.octets ≡ y.octets → x ≡ y
+pub row_path : {x y : Row} → x.windows ≡ y.windows → x.octets ≡ y.octets → x ≡ y
 row_path p q = λ i. record { windows = p i; octets = q i }
 
 -- v for the number k, 0 for another
@@ -180,10 +181,6 @@ read_tally past r t before one (Err e) is =
     turns past (read r) t before (fault_refusal e).number (fault_number e)
     (λ n. let w = ap (window_of n) is in let o = ap (octets_of n r) is in let f = ap (turned n) is in (omega arith, omega arith, omega arith))
 
-chain_join : {M : Type 0} (rule : Rule M) (xs ys : List Asked) (s t u : M) → Chain rule s xs t → Chain rule t ys u → Chain rule s (xs ++ ys) u
-chain_join rule [] ys s t u first second = rw first at second
-chain_join rule (a ∷ xs) ys s t u first second = (first.0, first.1, chain_join rule xs ys first.0 t u first.2 second)
-
 some_same : {A : Type 0} (b : Bool) {x y : A} → (b ≡ true → x ≡ y) → cond b (Some x) None ≡ cond b (Some y) None
 some_same true same = ap Some (same refl)
 some_same false same = refl
@@ -222,7 +219,7 @@ module _ {M : Type 0} (rule : Rule M) where
       record {
         seed_at = seed;
         tally_at = tally;
-        chain_at = rw (asks_pushed past c) (chain_join rule (all_asks past) (all_asks (c ∷ [])) m s.mender t.mender at.chain_at chain);
+        chain_at = rw (asks_pushed past c) (chain_append rule m s.mender t.mender (all_asks past) (all_asks (c ∷ [])) at.chain_at chain);
       }
 
   -- a call that counts nothing and leaves the station

@@ -46,8 +46,9 @@ pub fn drive<M: Mender>(
     if log.len() != orders.len() {
         return None;
     }
-    for (i, o) in orders.iter().enumerate() {
-        log[i] = obey(station, *o, mac, body, chips);
+    // Written by index, since a proof knows nothing of what is written through a zipped `iter_mut`.
+    for (i, order) in orders.iter().enumerate() {
+        log[i] = obey(station, *order, mac, body, chips);
     }
     Some(orders.len())
 }

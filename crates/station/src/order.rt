@@ -3,7 +3,7 @@ use crate::tally::Row;
 use faults::{Built, Delivery, Fault};
 
 // A call on common buffers: a build writes the body to the chips, and a read takes the chips as its window.
-#[derive(Clone, Copy)]
+#[derive(Clone, Copy, PartialEq, Eq, Debug)]
 pub enum Order {
     // The mode's number, and whether the frame is aggregated.
     Build(u8, bool),
@@ -15,7 +15,7 @@ pub enum Order {
 }
 
 // What a call answered.
-#[derive(Clone, Copy)]
+#[derive(Clone, Copy, PartialEq, Eq, Debug)]
 pub enum Answer {
     // No call was made yet: what a log is filled with before its calls.
     Nothing,

@@ -1,47 +1,32 @@
 // The tally: what was delivered in each mode, and what each refusal turned down.
 ghost use Rattle.std.specs.Prelude.{◌≡◌, ◌≤◌};
-ghost use Rattle.station.specs.Tallies.{no_tally, delivered, refused, mode_count, refusal_count};
+ghost use Rattle.station.specs.Tallies.{delivered, refused, mode_count, refusal_count};
 
 use format::Mode;
 
 // What was delivered in one mode: how many windows, and how many octets were mended in them.
-#[derive(Clone, Copy, PartialEq, Eq, Debug)]
+#[derive(Clone, Copy, Default, PartialEq, Eq, Debug)]
 pub struct Row {
     pub windows: u32,
     pub octets: u32,
 }
 
 // One row for each mode, and a count for each refusal 1 to 19. A count that would pass its type's end stops there.
-#[derive(Clone, Copy)]
+#[derive(Clone, Copy, Default)]
 pub struct Tally {
     rows: [Row; 7],
     refusals: [u32; 19],
 }
 
 impl Tally {
-    pub(crate) fn new() -> Tally
-        ensures { result ≡ no_tally }
-    {
-        Tally {
-            rows: [Row {
-                windows: 0,
-                octets: 0,
-            }; 7],
-            refusals: [0; 19],
-        }
-    }
-
     // One window more was delivered in a mode, with some octets mended.
     pub(crate) fn deliver(&mut self, mode: Mode, octets: usize)
         ensures { self.new ≡ delivered self.old mode octets }
     {
-        let i = mode.number() as usize - 1;
-        let row = self.rows[i];
-        let more = octets.min(0xffff_ffff) as u32;
-        self.rows[i] = Row {
-            windows: row.windows.saturating_add(1),
-            octets: row.octets.saturating_add(more),
-        };
+        let row = &mut self.rows[mode.number() as usize - 1];
+        row.windows = row.windows.saturating_add(1);
+        let more = u32::try_from(octets).unwrap_or(u32::MAX);
+        row.octets = row.octets.saturating_add(more);
     }
 
     // One build or read more was turned down by a refusal.
@@ -49,27 +34,23 @@ impl Tally {
         requires { (1 ≤ number) × (number ≤ 19) }
         ensures { self.new ≡ refused self.old number }
     {
-        let i = number as usize - 1;
-        self.refusals[i] = self.refusals[i].saturating_add(1);
+        let count = &mut self.refusals[number as usize - 1];
+        *count = count.saturating_add(1);
     }
 
     // How many windows were delivered in a mode, and how many octets were mended in them; none for another number than 1 to 7.
     pub(crate) fn mode(&self, number: u8) -> Option<Row>
         ensures { result ≡ mode_count self.now number }
     {
-        if number < 1 || number > 7 {
-            return None;
-        }
-        Some(self.rows[number as usize - 1])
+        let place = number.checked_sub(1)?;
+        self.rows.get(place as usize).copied()
     }
 
     // How many builds and reads a refusal turned down; none for another number than 1 to 19.
     pub(crate) fn refusal(&self, number: u8) -> Option<u32>
         ensures { result ≡ refusal_count self.now number }
     {
-        if number < 1 || number > 19 {
-            return None;
-        }
-        Some(self.refusals[number as usize - 1])
+        let place = number.checked_sub(1)?;
+        self.refusals.get(place as usize).copied()
     }
 }

@@ -20,7 +20,7 @@ impl<M: Mender> Station<M> {
     {
         Station {
             seed: 0,
-            tally: Tally::new(),
+            tally: Tally::default(),
             mender,
         }
     }
@@ -94,11 +94,7 @@ impl<M: Mender> Station<M> {
     pub fn close(self) -> M
         ensures { result ≡ self.mender }
     {
-        let Station {
-            seed: _,
-            tally: _,
-            mender,
-        } = self;
+        let Station { mender, .. } = self;
         mender
     }
 }
