@@ -1,5 +1,5 @@
 -- What a line of a capture holds.
-use Rattle.std.specs.Prelude.{◌≡◌, ℕ, ◌+◌, ◌-◌, ◌*◌, Bool, cond, ◌&&◌, ◌||◌, List, [], ◌∷◌, length, Some, None, Option, ◌==◌, nat_le, nat_lt}
+use Rattle.std.specs.Prelude.{◌≡◌, ℕ, ◌+◌, ◌-◌, ◌*◌, Bool, cond, ◌&&◌, ◌||◌, List, [], ◌∷◌, ◌++◌, length, Some, None, codes, decimal, Option, ◌==◌, nat_le, nat_lt}
 use Rattle.captures.specs.declared.fault.LineFault.{LineFault}
 use Rattle.captures.specs.declared.fault.LineFault.TheVariants.{NoCount, NoChips, TooLong, BadChip}
 use Rattle.captures.specs.Lines.{before, behind}
@@ -52,3 +52,10 @@ line_fault line = fields_fault (channel_count (before 32 line)) (behind 32 line)
 -- a line holds a window of so many channels with these digits
 abbrev pub WindowIn : List ℕ → ℕ → List ℕ → Type 0
 WindowIn line n ds = (line_fault line ≡ None) × (channel_count (before 32 line) ≡ Some n) × (ds ≡ behind 32 line)
+
+-- what is said of it
+abbrev pub line_fault_text : LineFault → List ℕ
+line_fault_text NoCount = codes "no channel count"
+line_fault_text NoChips = codes "no chips"
+line_fault_text TooLong = codes "longer than any window"
+line_fault_text (BadChip p) = codes "a chip that is neither 0 nor 1, at " ++ decimal p

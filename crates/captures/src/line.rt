@@ -10,11 +10,10 @@ use std::alloc::{AllocError, Global};
 fn with_digit(count: u8, octet: u8) -> Option<u8>
     ensures { result ≡ with_digit count octet }
 {
-    if octet < b'0' || octet > b'9' {
+    if !octet.is_ascii_digit() {
         return None;
     }
-    let more = 10 * count as u16 + (octet - b'0') as u16;
-    if more > 255 { None } else { Some(more as u8) }
+    count.checked_mul(10)?.checked_add(octet - b'0')
 }
 
 // A number up to 255 in decimal digits.
@@ -41,16 +40,11 @@ fn is_chip_digit(octet: u8) -> bool
 fn first_bad_digit(digits: &[u8]) -> Option<usize>
     ensures { result ≡ bad_digit digits.now }
 {
-    for (i, d) in digits.iter().enumerate() {
-        if !is_chip_digit(*d) {
-            return Some(i);
-        }
-    }
-    None
+    digits.iter().position(|d| !is_chip_digit(*d))
 }
 
 // A window as a line writes it: how many channels it has, and its chips as digits.
-#[derive(Clone, Copy)]
+#[derive(Debug, Clone, Copy, PartialEq, Eq)]
 pub struct Written<'a> {
     pub channels: u8,
     pub digits: &'a [u8],
@@ -61,11 +55,10 @@ impl Written<'_> {
     pub fn chips(self, heap: Global) -> Result<Vec<u8>, AllocError>
         ensures { IfOk result (λ v. v.items ≡ map (λ d. d - 48) self.entry.digits.now) }
     {
-        let mut chips = Vec::with_capacity(heap, self.digits.len())?;
-        for d in self.digits {
-            chips.push(d.saturating_sub(b'0'))?;
-        }
-        Ok(chips)
+        self.digits
+            .iter()
+            .map(|d| d.saturating_sub(b'0'))
+            .collect(heap)
     }
 }
 

@@ -1,42 +1,36 @@
 // A text's octets, line by line.
-ghost use Rattle.std.specs.Prelude.{◌≡◌, ◌<◌, ◌≤◌, length, MatchOption};
+ghost use Rattle.std.specs.Prelude.{◌≡◌, ◌<◌, length, MatchOption};
 ghost use Rattle.captures.specs.Lines.{place, before, behind, without_return, line_of};
 ghost use Rattle.std.specs.Iterator.{at_most};
 
-// The place of the first such octet; the text's length where there is none.
-fn place_of(octet: u8, text: &[u8]) -> usize
-    ensures value { result ≡ place octet text.now }
-    ensures within { result ≤ length text.now }
+// The place of the first such octet.
+fn place_of(octet: u8, text: &[u8]) -> Option<usize>
+    ensures { MatchOption result (place octet text.now ≡ length text.now) (λ i. (i < length text.now) × (place octet text.now ≡ i)) }
 {
-    for (i, o) in text.iter().enumerate() {
-        if *o == octet {
-            return i;
-        }
-    }
-    text.len()
+    text.iter().position(|o| *o == octet)
 }
 
 // What stands before the first such octet, and what stands behind it. Where there is none, all stands before it.
+#[tactic(auto, unfolding(crate::specs::Lines::before, crate::specs::Lines::behind))]
 pub fn split_once(text: &[u8], octet: u8) -> (&[u8], &[u8])
     ensures front { result.0.now ≡ before octet text.now }
     ensures back { result.1.now ≡ behind octet text.now }
 {
-    let place = place_of(octet, text);
-    if place == text.len() {
-        return (text, &[]);
+    match place_of(octet, text) {
+        Some(place) => (&text[..place], &text[place + 1..]),
+        None => (text, &[]),
     }
-    (&text[0..place], &text[place + 1..])
 }
 
 // A line without a carriage return at its end.
+#[tactic(auto, unfolding(crate::specs::Lines::without_return))]
 fn without_return(line: &[u8]) -> &[u8]
     ensures { result.now ≡ without_return line.now }
 {
-    let size = line.len();
-    if size > 0 && line[size - 1] == b'\r' {
-        return &line[0..size - 1];
+    match line.strip_suffix(b"\r") {
+        Some(front) => front,
+        None => line,
     }
-    line
 }
 
 // The first line, without its newline and a carriage return at its end, and the text behind it.
