@@ -1,11 +1,12 @@
 // What can be wrong with a line.
-ghost use Rattle.std.specs.Prelude.{◌≡◌};
+ghost use Rattle.std.specs.Prelude.{◌≡◌, Some};
 ghost use Rattle.lines.specs.Wrongs.{wrong_text};
 ghost use Rattle.lines.specs.declared.wrong.Stop.TheVariants.{Wrong as stop_wrong, Memory};
 
 use std::alloc::AllocError;
+use std::fmt;
 
-#[derive(Clone, Copy)]
+#[derive(Debug, Clone, Copy, PartialEq, Eq)]
 pub enum Wrong {
     // The first word is no call.
     Call,
@@ -20,25 +21,25 @@ pub enum Wrong {
     Station,
 }
 
-impl Wrong {
-    pub fn text(self) -> &'static str
-        ensures { result.now ≡ wrong_text self }
-    {
+impl fmt::Display for Wrong {
+    ghost output = { λ w. Some (wrong_text w) };
+
+    fn fmt<W: fmt::Write>(&self, f: &mut fmt::Formatter<W>) -> fmt::Result {
         match self {
-            Wrong::Call => "unknown call",
-            Wrong::Count => "wrong number of words",
-            Wrong::Number => "bad number",
-            Wrong::Octets => "bad octets",
-            Wrong::Chips => "bad chips",
-            Wrong::Changes => "bad changes",
-            Wrong::Mender => "bad mender",
-            Wrong::Station => "no station is open",
+            Wrong::Call => write!(f, "unknown call"),
+            Wrong::Count => write!(f, "wrong number of words"),
+            Wrong::Number => write!(f, "bad number"),
+            Wrong::Octets => write!(f, "bad octets"),
+            Wrong::Chips => write!(f, "bad chips"),
+            Wrong::Changes => write!(f, "bad changes"),
+            Wrong::Mender => write!(f, "bad mender"),
+            Wrong::Station => write!(f, "no station is open"),
         }
     }
 }
 
 // Why a line is not carried out: it is wrong, or there is no memory for it.
-#[derive(Clone, Copy)]
+#[derive(Debug, Clone, Copy, PartialEq, Eq)]
 pub enum Stop {
     Wrong(Wrong),
     Memory,
