@@ -1,39 +1,22 @@
--- Cutting a text, octet by octet.
-use Rattle.std.proofs.Common.{◌≡◌, ℕ, ◌+◌, ◌<◌, ◌≤◌, eqb, List, [], ◌∷◌, ◌++◌, length, get_or, take, drop, sym, refl, ap, ◌∙◌, arith}
-use Rattle.std.proofs.lemmas.List.{at_drop_more, at_drop_all, append_assoc, append-nil, take_more, take_all}
-use Rattle.std.proofs.lemmas.Bool.{cond-true, cond-false, eq-eqb, ne_eqb}
+-- The pieces of a text, in the library's words.
+use Rattle.std.proofs.Common.{◌≡◌, ℕ, ◌<◌, ◌≤◌, cond, eqb, List, [], ◌∷◌, length, get_or, Some, None, Option, MatchOption, Bor, refl, ap, ◌∙◌, arith}
+use Rattle.std.specs.List.{slice_split, onto_first, slice_get}
+use Rattle.std.specs.Option.{option_map}
+use Rattle.std.proofs.lemmas.Grind.{common_steps}
+use Rattle.std.proofs.lemmas.Option.{gets}
+use Rattle.std.proofs.lemmas.List.Splits.{length-slice_split}
 use Rattle.spelling.specs.Pieces.{glue, pieces}
 
-glue_glue : (xs ys : List ℕ) (ps : List (List ℕ)) → glue xs (glue ys ps) ≡ glue (xs ++ ys) ps
-glue_glue xs ys [] = refl
-glue_glue xs ys (p ∷ ps) = ap (λ (q : List ℕ). q ∷ ps) (sym (append_assoc xs ys p))
+glued : (c : ℕ) (ps : List (List ℕ)) → 0 < length ps → onto_first c ps ≡ glue (c ∷ []) ps
+glued c [] h = absurd (omega arith)
+glued c (p ∷ ps) h = refl
 
-length_glue : (xs : List ℕ) (ps : List (List ℕ)) → length (glue xs ps) ≡ length ps
-length_glue xs [] = refl
-length_glue xs (p ∷ ps) = refl
+pub pieces_are : (by : ℕ) (t : List ℕ) → slice_split (λ c. eqb c by) t ≡ pieces by t
+pieces_are by [] = refl
+pieces_are by (c ∷ cs) =
+    ap (cond (eqb c by) ([] ∷ slice_split (λ d. eqb d by) cs)) (glued c (slice_split (λ d. eqb d by) cs) (omega (arith, length-slice_split (λ d. eqb d by) cs)))
+    ∙ ap (λ ps. cond (eqb c by) ([] ∷ ps) (glue (c ∷ []) ps)) (pieces_are by cs)
 
-module _ (by : ℕ) (t : List ℕ) (i : ℕ) where
-  here : i < length t → get_or t i 0 ≡ by → pieces by (drop i t) ≡ [] ∷ pieces by (drop (i + 1) t)
-  here lt e = at_drop_more (pieces by) t i 0 lt ∙ cond-true (eqb (get_or t i 0) by) _ _ (eq-eqb (get_or t i 0) by e)
-
-  on : i < length t → (get_or t i 0 ≡ by → ⊥) → pieces by (drop i t) ≡ glue (get_or t i 0 ∷ []) (pieces by (drop (i + 1) t))
-  on lt ne = at_drop_more (pieces by) t i 0 lt ∙ cond-false (eqb (get_or t i 0) by) _ _ (ne_eqb (get_or t i 0) by ne)
-
-  -- the first such octet is found
-  pub found : i < length t → get_or t i 0 ≡ by → pieces by t ≡ glue (take i t) (pieces by (drop i t)) → pieces by t ≡ take i t ∷ pieces by (drop (i + 1) t)
-  found lt e passed = passed ∙ ap (glue (take i t)) (here lt e) ∙ ap (λ (p : List ℕ). p ∷ pieces by (drop (i + 1) t)) (append-nil (take i t))
-
-  pub passed_more : i < length t → (get_or t i 0 ≡ by → ⊥) → pieces by t ≡ glue (take i t) (pieces by (drop i t)) → pieces by t ≡ glue (take (i + 1) t) (pieces by (drop (i + 1) t))
-  passed_more lt ne passed =
-      passed ∙ ap (glue (take i t)) (on lt ne) ∙ glue_glue (take i t) (get_or t i 0 ∷ []) (pieces by (drop (i + 1) t))
-      ∙ ap (λ xs. glue xs (pieces by (drop (i + 1) t))) (sym (take_more t i 0 lt))
-
-  pub passed_all : length t ≤ i → pieces by t ≡ glue (take i t) (pieces by (drop i t)) → pieces by t ≡ t ∷ []
-  passed_all end passed =
-      passed ∙ ap (glue (take i t)) (at_drop_all (pieces by) t i end) ∙ ap (λ (p : List ℕ). p ∷ []) (append-nil (take i t) ∙ take_all i t end)
-
-  pub count_here : i < length t → get_or t i 0 ≡ by → length (pieces by (drop i t)) ≡ 1 + length (pieces by (drop (i + 1) t))
-  count_here lt e = ap length (here lt e) ∙ omega arith
-
-  pub count_on : i < length t → (get_or t i 0 ≡ by → ⊥) → length (pieces by (drop i t)) ≡ length (pieces by (drop (i + 1) t))
-  count_on lt ne = ap length (on lt ne) ∙ length_glue (get_or t i 0 ∷ []) (pieces by (drop (i + 1) t))
+pub part_at : (ps : List (List ℕ)) (k : ℕ) (r : Option (Bor (List ℕ))) → option_map (λ u. u.now) r ≡ slice_get ps k → MatchOption r (length ps ≤ k) (λ u. (k < length ps) × (u.now ≡ get_or ps k []))
+part_at ps k None e = grind (arith, common_steps, gets)
+part_at ps k (Some u) e = grind (arith, common_steps, gets)

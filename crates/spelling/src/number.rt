@@ -7,14 +7,11 @@ fn longer(n: u32, octet: u8, most: u32) -> Option<u32>
     ensures value { result ≡ longer_by most n octet }
     ensures bound { IfSome result (λ m. m ≤ most) }
 {
-    if octet < b'0' || octet > b'9' {
+    if !octet.is_ascii_digit() {
         return None;
     }
-    let more = 10 * n as u64 + (octet - b'0') as u64;
-    if more > most as u64 {
-        return None;
-    }
-    Some(more as u32)
+    let more = n.checked_mul(10)?.checked_add(u32::from(octet - b'0'))?;
+    (more <= most).then_some(more)
 }
 
 fn read_digits(text: &[u8], most: u32) -> Option<u32>
@@ -33,7 +30,7 @@ pub fn read_number(text: &[u8], most: u32) -> Option<u32>
     ensures value { result ≡ number_read most text.now }
     ensures bound { IfSome result (λ n. n ≤ most) }
 {
-    if text.len() == 0 || text.len() > 9 {
+    if text.is_empty() || text.len() > 9 {
         return None;
     }
     read_digits(text, most)

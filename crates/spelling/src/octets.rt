@@ -22,23 +22,17 @@ fn digit_value(digit: u8) -> Option<u8>
 fn join_digits(high: u8, low: u8) -> Option<u8>
     ensures { result ≡ hex_octet high low }
 {
-    let Some(h) = digit_value(high) else {
-        return None;
-    };
-    let Some(l) = digit_value(low) else {
-        return None;
-    };
-    Some(16 * h + l)
+    Some(16 * digit_value(high)? + digit_value(low)?)
 }
 
 // One octet.
 pub(crate) fn read_octet(text: &[u8]) -> Option<u8>
     ensures { result ≡ octet_read text.now }
 {
-    if text.len() != 2 {
+    let [high, low] = text else {
         return None;
-    }
-    join_digits(text[0], text[1])
+    };
+    join_digits(*high, *low)
 }
 
 fn read_pairs(heap: Global, text: &[u8]) -> Result<Option<Vec<u8>>, AllocError>

@@ -1,19 +1,13 @@
-use Rattle.std.proofs.Common.{length, arith}
-use Rattle.std.proofs.lemmas.List.{at_drop_all}
-use Rattle.spelling.specs.Pieces.{pieces}
-use Rattle.spelling.proofs.Cuts.{count_here, count_on}
+use Rattle.std.proofs.Common.{eqb, length, ap, ◌∙◌, rules, tests}
+use Rattle.std.proofs.lemmas.Iterator.Consumers.{count_from_yields_List}
+use Rattle.std.proofs.lemmas.Iterator.Splits.{YieldsList-from_slice_split}
+use Rattle.spelling.proofs.Cuts.{pieces_are}
 use Rattle.spelling.proofs.pieces.count_pieces.Goals as goal
-use Rattle.spelling.proofs.pieces.count_pieces.Goals.{then-c-by, else-c-by}
-
-pub loop-c-preserved : goal.loop-c-preserved
-loop-c-preserved c =
-    let by = c.args.by in
-    let t = c.args.text.now in
-    let i = c.loop-c.c-index in
-    elim c.if-c-by.branch [
-      | then-c-by w ↦ (omega (arith, w.n-is, count_here by t i c.loop-c-test.true w.if-c-by.true), omega (arith, w.n-is))
-      | else-c-by w ↦ (omega (arith, w.n-is, count_on by t i c.loop-c-test.true w.if-c-by.false), omega (arith, w.n-is))
-    ]
 
 pub returns : goal.returns
-returns c = omega (arith, at_drop_all (λ t. length (pieces c.args.by t)) c.args.text.now c.loop-c.c-index c.loop-c-test.false)
+returns c =
+    let by = c.args.by in
+    let t = c.args.text.now in
+    count_from_yields_List c.split.result c.count.result c.count.ensures.ran
+    (YieldsList-from_slice_split _ (λ x. eqb x by) t c.split.ensures.rest c.split.ensures.done c.split.ensures.closure (λ x b q k. search (rules, tests)))
+    ∙ ap length (pieces_are by t)
