@@ -1,6 +1,7 @@
 -- Lists that are read part by part: what a loop over the parts keeps.
-use Rattle.std.proofs.Common.{◌≡◌, ℕ, ◌+◌, ◌*◌, ◌<◌, ◌≤◌, List, [], ◌∷◌, ◌++◌, length, get_or, drop, Some, None, Option, sym, refl, ap, ◌∙◌, arith}
-use Rattle.std.proofs.lemmas.List.{at_drop_more, at_drop_all, drop_more, append_assoc, append-nil}
+use Rattle.std.proofs.Common.{◌≡◌, ℕ, zero, suc, ◌+◌, ◌*◌, ◌<◌, ◌≤◌, List, [], ◌∷◌, ◌++◌, length, get_or, map, drop, Some, None, Option, sym, refl, ap, ◌∙◌, arith}
+use Rattle.std.proofs.lemmas.List.{at_drop_more, at_drop_all, append_assoc, append-nil}
+use Rattle.std.specs.Simd.{first_chunks}
 use Rattle.spelling.specs.Lists.{and_then, behind, each}
 use Rattle.spelling.specs.Octets.{hex_octet, hex_octets}
 
@@ -19,34 +20,29 @@ module _ {X Y : Type 0} (f : X → Option Y) (xs : List X) (i : ℕ) (d : X) (vs
   pub each_more : (y : Y) → i < length xs → Some y ≡ f (get_or xs i d) → behind vs (each f (drop i xs)) ≡ behind (vs ++ y ∷ []) (each f (drop (i + 1) xs))
   each_more y lt e = at (Some y) lt e ∙ behind_behind vs (y ∷ []) (each f (drop (i + 1) xs))
 
-  pub each_all : length xs ≤ i → behind vs (each f (drop i xs)) ≡ Some vs
-  each_all end = ap (behind vs) (at_drop_all (each f) xs i end) ∙ ap (λ (ws : List Y). Some ws) (append-nil vs)
+pub each_all : {X Y : Type 0} (f : X → Option Y) (xs : List X) (i : ℕ) (vs : List Y) → length xs ≤ i → behind vs (each f (drop i xs)) ≡ Some vs
+each_all {X} {Y} f xs i vs end = ap (behind vs) (at_drop_all (each f) xs i end) ∙ ap (λ (ws : List Y). Some ws) (append-nil vs)
 
-module _ (t : List ℕ) (i : ℕ) (vs : List ℕ) where
-  pair : 2 * i + 1 < length t → drop (2 * i) t ≡ get_or t (2 * i) 0 ∷ (get_or t (2 * i + 1) 0 ∷ drop (2 * (i + 1)) t)
-  pair lt =
-      let twice : 2 * i + 1 + 1 ≡ 2 * (i + 1) = omega arith in
-      drop_more t (2 * i) 0 (omega arith)
-      ∙ ap (λ (cs : List ℕ). get_or t (2 * i) 0 ∷ cs) (drop_more t (2 * i + 1) 0 lt ∙ ap (λ n. get_or t (2 * i + 1) 0 ∷ drop n t) twice)
+-- the parts are seen through a reading of them
+pub each_seen : {X Y Z : Type 0} (see : X → Y) (f : Y → Option Z) (xs : List X) → each (λ x. f (see x)) xs ≡ each f (map see xs)
+each_seen see f [] = refl
+each_seen see f (x ∷ xs) = ap (λ o. and_then (f (see x)) (λ y. behind (y ∷ []) o)) (each_seen see f xs)
 
-  hex_at : (o : Option ℕ) → 2 * i + 1 < length t → o ≡ hex_octet (get_or t (2 * i) 0) (get_or t (2 * i + 1) 0)
-      → behind vs (hex_octets (drop (2 * i) t)) ≡ behind vs (and_then o (λ v. behind (v ∷ []) (hex_octets (drop (2 * (i + 1)) t))))
-  hex_at o lt e =
-      ap (behind vs) (ap hex_octets (pair lt) ∙ ap (λ (p : Option ℕ). and_then p (λ v. behind (v ∷ []) (hex_octets (drop (2 * (i + 1)) t)))) (sym e))
+-- octets that are read by twos
+pub each_pair : (k : ℕ) (t : List ℕ) → length t ≡ 2 * k → each (λ (p : List ℕ). hex_octet (get_or p 0 0) (get_or p 1 0)) (first_chunks 2 k t) ≡ hex_octets t
+each_pair zero [] h = refl
+each_pair zero (c ∷ cs) h = absurd (omega arith)
+each_pair (suc k) [] h = absurd (omega arith)
+each_pair (suc k) (c ∷ []) h = absurd (omega arith)
+each_pair (suc k) (c ∷ (d ∷ cs)) h = ap (λ os. and_then (hex_octet c d) (λ o. behind (o ∷ []) os)) (each_pair k cs (omega arith))
 
-  pub hex_none : 2 * i + 1 < length t → None ≡ hex_octet (get_or t (2 * i) 0) (get_or t (2 * i + 1) 0) → behind vs (hex_octets (drop (2 * i) t)) ≡ None
-  hex_none lt e = hex_at None lt e
+none_behind : {X Y : Type 0} (o : Option X) (ys : Option (List Y)) (f : X → List Y) → ys ≡ None → and_then o (λ x. behind (f x) ys) ≡ None
+none_behind None ys f e = refl
+none_behind (Some x) ys f e = ap (behind (f x)) e
 
-  pub hex_more : (v : ℕ) → 2 * i + 1 < length t → Some v ≡ hex_octet (get_or t (2 * i) 0) (get_or t (2 * i + 1) 0)
-      → behind vs (hex_octets (drop (2 * i) t)) ≡ behind (vs ++ v ∷ []) (hex_octets (drop (2 * (i + 1)) t))
-  hex_more v lt e = hex_at (Some v) lt e ∙ behind_behind vs (v ∷ []) (hex_octets (drop (2 * (i + 1)) t))
-
-  pub hex_all : length t ≤ 2 * i → behind vs (hex_octets (drop (2 * i) t)) ≡ Some vs
-  hex_all end = ap (behind vs) (at_drop_all hex_octets t (2 * i) end) ∙ ap (λ (ws : List ℕ). Some ws) (append-nil vs)
-
-  -- one digit is left over
-  pub hex_odd : length t ≡ 2 * i + 1 → behind vs (hex_octets (drop (2 * i) t)) ≡ None
-  hex_odd one =
-      let front = at_drop_more hex_octets t (2 * i) 0 (omega arith) in
-      let rest = at_drop_all (λ (cs : List ℕ). hex_octets (get_or t (2 * i) 0 ∷ cs)) t (2 * i + 1) (omega arith) in
-      ap (behind vs) (front ∙ rest)
+-- one digit is left over
+pub hex_odd : (k : ℕ) (t : List ℕ) → length t ≡ 2 * k + 1 → hex_octets t ≡ None
+hex_odd k [] h = absurd (omega arith)
+hex_odd k (c ∷ []) h = refl
+hex_odd zero (c ∷ (d ∷ cs)) h = absurd (omega arith)
+hex_odd (suc k) (c ∷ (d ∷ cs)) h = none_behind (hex_octet c d) (hex_octets cs) (λ o. o ∷ []) (hex_odd k cs (omega arith))

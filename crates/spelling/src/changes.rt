@@ -1,11 +1,11 @@
 // Changes, as a place and an octet each, with commas between them.
-ghost use Rattle.std.specs.Prelude.{◌≡◌, length, IfOk, vec_items};
+ghost use Rattle.std.specs.Prelude.{◌≡◌, IfOk, vec_items};
 ghost use Rattle.std.specs.Option.{option_map};
 ghost use Rattle.spelling.specs.Lists.{each};
 ghost use Rattle.spelling.specs.Pieces.{pieces};
 ghost use Rattle.spelling.specs.Changes.{change_read, changes_read};
 
-use crate::list::is_dash;
+use crate::list::read_each;
 use crate::number::read_number;
 use crate::octets::read_octet;
 use crate::pieces::{count_pieces, piece};
@@ -27,33 +27,21 @@ fn read_change(text: &[u8]) -> Option<Change>
     })
 }
 
-fn read_each(heap: Global, text: &[u8], count: usize) -> Result<Option<Vec<Change>>, AllocError>
-    requires { count ≡ length (pieces 44 text.now) }
+fn read_list(heap: Global, text: &[u8]) -> Result<Option<Vec<Change>>, AllocError>
     ensures { IfOk result (λ o. option_map vec_items o ≡ each change_read (pieces 44 text.now)) }
 {
-    let mut changes = Vec::new(heap);
-    for k in 0..count {
-        let Some(part) = piece(text, b',', k) else {
-            return Ok(None);
-        };
-        let Some(change) = read_change(part) else {
-            return Ok(None);
-        };
-        changes.push(change)?;
-    }
-    Ok(Some(changes))
+    let parts: Vec<&[u8]> = text.split(|c| *c == b',').collect(heap)?;
+    read_each(heap, parts.as_slice(), |part| read_change(*part))
 }
 
 // A list of at most 240 changes.
 pub fn read_changes(heap: Global, text: &[u8]) -> Result<Option<Vec<Change>>, AllocError>
     ensures { IfOk result (λ o. option_map vec_items o ≡ changes_read text.now) }
 {
-    if is_dash(text) {
-        return Ok(Some(Vec::new(heap)));
+    match text {
+        b"-" => Ok(Some(Vec::new(heap))),
+        b"" => Ok(None),
+        _ if count_pieces(text, b',') > 240 => Ok(None),
+        _ => read_list(heap, text),
     }
-    let count = count_pieces(text, b',');
-    if text.len() == 0 || count > 240 {
-        return Ok(None);
-    }
-    read_each(heap, text, count)
 }

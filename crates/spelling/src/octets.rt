@@ -3,7 +3,7 @@ ghost use Rattle.std.specs.Prelude.{◌≡◌, ◌<◌, IfSome, IfOk, vec_items}
 ghost use Rattle.std.specs.Option.{option_map};
 ghost use Rattle.spelling.specs.Octets.{hex_value, hex_octet, hex_octets, octet_read, octets_read};
 
-use crate::list::is_dash;
+use crate::list::read_each;
 use std::alloc::{AllocError, Global};
 
 // The value of a lowercase hexadecimal digit.
@@ -38,28 +38,20 @@ pub(crate) fn read_octet(text: &[u8]) -> Option<u8>
 fn read_pairs(heap: Global, text: &[u8]) -> Result<Option<Vec<u8>>, AllocError>
     ensures { IfOk result (λ o. option_map vec_items o ≡ hex_octets text.now) }
 {
-    let mut octets = Vec::new(heap);
-    for i in 0..text.len() / 2 {
-        let Some(octet) = join_digits(text[2 * i], text[2 * i + 1]) else {
-            return Ok(None);
-        };
-        octets.push(octet)?;
-    }
-    if text.len() % 2 == 1 {
+    let (pairs, rest) = text.as_chunks::<2>();
+    if !rest.is_empty() {
         return Ok(None);
     }
-    Ok(Some(octets))
+    read_each(heap, pairs, |[high, low]| join_digits(*high, *low))
 }
 
 // A list of octets.
 pub fn read_octets(heap: Global, text: &[u8]) -> Result<Option<Vec<u8>>, AllocError>
     ensures { IfOk result (λ o. option_map vec_items o ≡ octets_read text.now) }
 {
-    if is_dash(text) {
-        return Ok(Some(Vec::new(heap)));
+    match text {
+        b"-" => Ok(Some(Vec::new(heap))),
+        b"" => Ok(None),
+        _ => read_pairs(heap, text),
     }
-    if text.len() == 0 {
-        return Ok(None);
-    }
-    read_pairs(heap, text)
 }

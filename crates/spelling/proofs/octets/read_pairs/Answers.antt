@@ -1,24 +1,17 @@
-use Rattle.std.proofs.Common.{◌+◌, ◌*◌, [], ◌∷◌, drop, vec_items, sym, refl, ap, ◌∙◌, arith}
-use Rattle.std.proofs.lemmas.Slice.{pushed}
-use Rattle.spelling.specs.Lists.{behind}
-use Rattle.spelling.specs.Octets.{hex_octets}
-use Rattle.spelling.proofs.Readings.{hex_none, hex_more, hex_all, hex_odd}
+use Rattle.std.proofs.Common.{◌≡◌, ℕ, ◌*◌, ◌/◌, List, length, get_or, IfOk, vec_items, sym, subst, ap, ◌∙◌, rules, arith}
+use Rattle.std.specs.Option.{option_map}
+use Rattle.spelling.specs.Lists.{each}
+use Rattle.spelling.specs.Octets.{hex_octet}
+use Rattle.spelling.proofs.Readings.{each_pair, hex_odd}
 use Rattle.spelling.proofs.octets.read_pairs.Goals as goal
 
-pub returns-in_default : goal.returns-in_default
-returns-in_default c =
-    sym (hex_none c.args.text.now c.loop-i.i (vec_items c.loop-i.octets) (omega (arith, c.loop-i-test.true)) c.in_default.ensures) ∙ c.loop-i.invariant
-
-pub loop-i-preserved : goal.loop-i-preserved
-loop-i-preserved c =
-    ap (λ vs. behind vs (hex_octets (drop (2 * (c.loop-i.i + 1)) c.args.text.now))) (pushed (c.in-Some.octet ∷ []) refl c.in_ok-push.was c.push.ensures.items)
-    ∙ sym (hex_more c.args.text.now c.loop-i.i (vec_items c.loop-i.octets) c.in-Some.octet (omega (arith, c.loop-i-test.true)) c.in-Some.ensures)
-    ∙ c.loop-i.invariant
-
-pub returns-then-text-eq1 : goal.returns-then-text-eq1
-returns-then-text-eq1 c =
-    sym (hex_odd c.args.text.now c.loop-i.i (vec_items c.loop-i.octets) (omega (arith, c.loop-i-test.false, c.loop-i.auto.i-end))) ∙ c.loop-i.invariant
+pub returns-then-not-is_empty : goal.returns-then-not-is_empty
+returns-then-not-is_empty c = sym (hex_odd (length c.args.text.now / 2) c.args.text.now (grind (arith, c.as_chunks.ensures.back_len, c.is_empty.ensures)))
 
 pub returns : goal.returns
 returns c =
-    sym (hex_all c.args.text.now c.loop-i.i (vec_items c.loop-i.octets) (omega (arith, c.loop-i-test.false, c.loop-i.auto.i-end, c.if-text-eq1.false))) ∙ c.loop-i.invariant
+    let pair : List ℕ → _ = λ p. hex_octet (get_or p 0 0) (get_or p 1 0) in
+    let t = c.args.text.now in
+    let even : length t ≡ 2 * (length t / 2) = grind (arith, c.as_chunks.ensures.back_len, c.is_empty.ensures) in
+    subst (λ os. IfOk c.read_each.result (λ o. option_map vec_items o ≡ os)) (ap (each pair) c.as_chunks.ensures.front ∙ each_pair (length t / 2) t even)
+    (c.read_each.ensures pair (λ part said h. search rules))
