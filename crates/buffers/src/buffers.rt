@@ -1,10 +1,10 @@
 // A call's buffers before and after it.
-ghost use Rattle.std.specs.Prelude.{◌≡◌, take, drop};
+ghost use Rattle.std.specs.Prelude.{◌≡◌, Some, take, drop};
 ghost use Rattle.buffers.specs.Buffers.{all_zero, all_chips, buffers_text, build_filled, read_filled, read_zeroed, after_build as build_left, after_read as read_left, after_encode as encode_left};
 
-use spelling::same;
+use std::fmt;
 
-#[derive(Clone, Copy)]
+#[derive(Debug, Clone, Copy, PartialEq, Eq)]
 pub enum Buffers {
     // They hold just what the call's description says.
     Filled,
@@ -15,21 +15,21 @@ pub enum Buffers {
     Other,
 }
 
-impl Buffers {
-    pub fn text(self) -> &'static str
-        ensures { result.now ≡ buffers_text self }
-    {
+impl fmt::Display for Buffers {
+    ghost output = { λ b. Some (buffers_text b) };
+
+    fn fmt<W: fmt::Write>(&self, f: &mut fmt::Formatter<W>) -> fmt::Result {
         match self {
-            Buffers::Filled => "filled",
-            Buffers::Untouched => "untouched",
-            Buffers::Zeroed => "zeroed",
-            Buffers::Other => "other",
+            Buffers::Filled => write!(f, "filled"),
+            Buffers::Untouched => write!(f, "untouched"),
+            Buffers::Zeroed => write!(f, "zeroed"),
+            Buffers::Other => write!(f, "other"),
         }
     }
 }
 
 // A buffer before and after a call.
-#[derive(Clone, Copy)]
+#[derive(Debug, Clone, Copy, PartialEq, Eq)]
 pub struct Looks<'a> {
     pub before: &'a [u8],
     pub after: &'a [u8],
@@ -38,30 +38,20 @@ pub struct Looks<'a> {
 fn are_zero(octets: &[u8]) -> bool
     ensures { result ≡ all_zero octets.now }
 {
-    for o in octets {
-        if *o != 0 {
-            return false;
-        }
-    }
-    true
+    octets.iter().all(|o| *o == 0)
 }
 
 fn are_chips(chips: &[u8]) -> bool
     ensures { result ≡ all_chips chips.now }
 {
-    for c in chips {
-        if *c > 1 {
-            return false;
-        }
-    }
-    true
+    chips.iter().all(|c| *c <= 1)
 }
 
 // The first n octets, or as many as there are.
 fn front(octets: &[u8], n: usize) -> &[u8]
     ensures { result.now ≡ take n octets.now }
 {
-    &octets[0..n.min(octets.len())]
+    &octets[..n.min(octets.len())]
 }
 
 // What stands behind the first n octets.
@@ -74,21 +64,20 @@ fn behind(octets: &[u8], n: usize) -> &[u8]
 fn is_build_filled(written: Option<usize>, chips: Looks<'_>) -> bool
     ensures { result ≡ build_filled written chips.entry.before.now chips.entry.after.now }
 {
-    let Some(n) = written else {
-        return false;
-    };
-    are_chips(front(chips.after, n)) && same(behind(chips.before, n), behind(chips.after, n))
+    written.is_some_and(|n| {
+        are_chips(front(chips.after, n)) && behind(chips.before, n) == behind(chips.after, n)
+    })
 }
 
 // The buffers of a build, and how many chips it wrote unless it was refused.
 pub fn after_build(written: Option<usize>, body: Looks<'_>, chips: Looks<'_>) -> Buffers
     ensures { result ≡ build_left written body.entry.before.now body.entry.after.now chips.entry.before.now chips.entry.after.now }
 {
-    if !same(body.before, body.after) {
+    if body.before != body.after {
         Buffers::Other
     } else if is_build_filled(written, chips) {
         Buffers::Filled
-    } else if same(chips.before, chips.after) {
+    } else if chips.before == chips.after {
         Buffers::Untouched
     } else {
         Buffers::Other
@@ -98,11 +87,10 @@ pub fn after_build(written: Option<usize>, body: Looks<'_>, chips: Looks<'_>) ->
 fn is_read_filled(length: Option<usize>, body: Looks<'_>) -> bool
     ensures { result ≡ read_filled length body.entry.before.now body.entry.after.now }
 {
-    let Some(n) = length else {
-        return false;
-    };
-    are_zero(behind(front(body.after, 2048), n))
-        && same(behind(body.before, 2048), behind(body.after, 2048))
+    length.is_some_and(|n| {
+        are_zero(behind(front(body.after, 2048), n))
+            && behind(body.before, 2048) == behind(body.after, 2048)
+    })
 }
 
 fn is_read_zeroed(mac: &[u8], body: Looks<'_>) -> bool
@@ -110,7 +98,7 @@ fn is_read_zeroed(mac: &[u8], body: Looks<'_>) -> bool
 {
     are_zero(mac)
         && are_zero(front(body.after, 2048))
-        && same(behind(body.before, 2048), behind(body.after, 2048))
+        && behind(body.before, 2048) == behind(body.after, 2048)
 }
 
 // The buffers of a read, and how long the body is unless the read was refused.
@@ -119,7 +107,7 @@ pub fn after_read(length: Option<usize>, mac: Looks<'_>, body: Looks<'_>) -> Buf
 {
     if is_read_filled(length, body) {
         Buffers::Filled
-    } else if same(mac.before, mac.after) && same(body.before, body.after) {
+    } else if mac.before == mac.after && body.before == body.after {
         Buffers::Untouched
     } else if is_read_zeroed(mac.after, body) {
         Buffers::Zeroed
@@ -132,7 +120,7 @@ pub fn after_read(length: Option<usize>, mac: Looks<'_>, body: Looks<'_>) -> Buf
 pub fn after_encode(parity: Looks<'_>) -> Buffers
     ensures { result ≡ encode_left parity.entry.before.now parity.entry.after.now }
 {
-    if same(parity.before, parity.after) {
+    if parity.before == parity.after {
         Buffers::Untouched
     } else {
         Buffers::Other

@@ -2,18 +2,14 @@
 ghost use Rattle.std.specs.Prelude.{◌≡◌, ◌++◌, string_bytes, OnOk};
 ghost use Rattle.writing.specs.Changes.{change_written, listed, changes_written};
 
-use crate::number::write_number;
-use crate::octets::write_octet;
+use crate::text::put;
 use std::alloc::AllocError;
 use words::Change;
 
 fn write_change(out: &mut String, change: Change) -> Result<(), AllocError>
     ensures { OnOk result (string_bytes out.new ≡ string_bytes out.old ++ change_written change) }
 {
-    write_number(out, change.place)?;
-    out.push(':')?;
-    write_octet(out, change.octet)?;
-    Ok(())
+    put(out, format_args!("{}:{:02x}", change.place, change.octet))
 }
 
 // Writes changes, each with a comma before it.
@@ -31,10 +27,9 @@ fn write_rest(out: &mut String, changes: &[Change]) -> Result<(), AllocError>
 pub fn write_changes(out: &mut String, changes: &[Change]) -> Result<(), AllocError>
     ensures { OnOk result (string_bytes out.new ≡ string_bytes out.old ++ changes_written changes.now) }
 {
-    if changes.len() == 0 {
+    let Some((first, rest)) = changes.split_first() else {
         return out.push('-');
-    }
-    write_change(out, changes[0])?;
-    write_rest(out, &changes[1..])?;
-    Ok(())
+    };
+    write_change(out, *first)?;
+    write_rest(out, rest)
 }

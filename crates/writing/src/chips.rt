@@ -8,28 +8,15 @@ fn chip_digit(chip: u8) -> char
     ensures digit { result ≡ chip_char chip }
     ensures ascii { result < 128 }
 {
-    if chip < 10 {
-        (b'0' + chip) as char
-    } else {
-        '?'
-    }
-}
-
-fn write_each(out: &mut String, chips: &[u8]) -> Result<(), AllocError>
-    ensures { OnOk result (string_bytes out.new ≡ string_bytes out.old ++ map chip_char chips.now) }
-{
-    for chip in chips {
-        out.push(chip_digit(*chip))?;
-    }
-    Ok(())
+    char::from_digit(u32::from(chip), 10).unwrap_or('?')
 }
 
 // Writes a list of chips behind the text. What is above 9 has no digit, and a question mark stands for it.
 pub fn write_chips(out: &mut String, chips: &[u8]) -> Result<(), AllocError>
     ensures { OnOk result (string_bytes out.new ≡ string_bytes out.old ++ chips_written chips.now) }
 {
-    if chips.len() == 0 {
+    if chips.is_empty() {
         return out.push('-');
     }
-    write_each(out, chips)
+    out.extend(chips.iter().map(|chip| chip_digit(*chip)))
 }

@@ -3,7 +3,6 @@
 
 mod changes;
 mod chips;
-mod number;
 mod octets;
 mod text;
 

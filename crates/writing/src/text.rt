@@ -8,8 +8,5 @@ use std::fmt::Display;
 pub fn put<D: Display + Drop>(out: &mut String, value: D) -> Result<(), AllocError>
     ensures { OnOk result (IfSome (D.Display.output value) (λ bs. string_bytes out.new ≡ string_bytes out.old ++ bs)) }
 {
-    match out.write(value) {
-        Ok(()) => Ok(()),
-        Err(_) => Err(AllocError),
-    }
+    out.write(value)
 }

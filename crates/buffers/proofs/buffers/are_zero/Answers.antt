@@ -1,20 +1,12 @@
-use Rattle.std.proofs.Common.{◌+◌, ◌&&◌, get_or, drop, sym, ap, ◌∙◌}
-use Rattle.std.proofs.lemmas.List.{at_drop_more, at_drop_all}
-use Rattle.std.proofs.lemmas.Bool.{eq-eqb, ne_eqb, and_left}
+use Rattle.std.proofs.Common.{eqb, ◌&&◌, refl, ◌∙◌, rules, tests}
+use Rattle.std.specs.List.{list_all}
+use Rattle.std.proofs.lemmas.Iterator.{YieldsList-from_slice}
+use Rattle.std.proofs.lemmas.Iterator.Search.{all_from_yields_List}
+use Rattle.std.proofs.lemmas.List.Recursion.{same_from_clauses}
 use Rattle.buffers.specs.Buffers.{all_zero}
 use Rattle.buffers.proofs.buffers.are_zero.Goals as goal
 
-pub returns-then-o-ne0 : goal.returns-then-o-ne0
-returns-then-o-ne0 c =
-    let t = c.args.octets.now in
-    let i = c.loop-o.o-index in
-    sym (at_drop_more all_zero t i 0 c.loop-o-test.true ∙ and_left _ _ (ne_eqb (get_or t i 0) 0 c.if-o-ne0.true)) ∙ c.loop-o.invariant
-
-pub loop-o-preserved : goal.loop-o-preserved
-loop-o-preserved c =
-    let t = c.args.octets.now in
-    let i = c.loop-o.o-index in
-    sym (at_drop_more all_zero t i 0 c.loop-o-test.true ∙ ap (λ b. b && all_zero (drop (i + 1) t)) (eq-eqb (get_or t i 0) 0 c.if-o-ne0.false)) ∙ c.loop-o.invariant
-
 pub returns : goal.returns
-returns c = sym (at_drop_all all_zero c.args.octets.now c.loop-o.o-index c.loop-o-test.false) ∙ c.loop-o.invariant
+returns c =
+    all_from_yields_List (λ o. eqb o 0) _ _ c.all.result c.all.ensures.ran (YieldsList-from_slice c.args.octets.now cc) (λ x b q k. search (rules, tests))
+    ∙ same_from_clauses (list_all (λ o. eqb o 0)) all_zero (λ o b. eqb o 0 && b) refl (λ _ _. refl) (λ _ _. refl) c.args.octets.now
