@@ -1,5 +1,5 @@
 // Answers as text.
-ghost use Rattle.std.specs.Prelude.{◌≡◌, ◌++◌, if◌then◌else◌, string_bytes, OnOk};
+ghost use Rattle.std.specs.Prelude.{◌≡◌, ◌++◌, string_bytes, OnOk};
 ghost use Rattle.answers.specs.Texts.{layer_name, built_text, sent_text, got_text, octets_text, delivered_text, cause_text, left_text, refused_text, part_text, named_text, proposed_text, answer_text};
 
 use crate::answer::Answer;
@@ -33,19 +33,10 @@ fn write_built(
         out,
         format_args!(
             "built seed={} chips={} buffers={} ",
-            built.seed,
-            built.chips,
-            buffers.text()
+            built.seed, built.chips, buffers
         ),
     )?;
-    write_chips(out, chips)?;
-    Ok(())
-}
-
-fn bit(flag: bool) -> u8
-    ensures { result ≡ (if flag then 1 else 0) }
-{
-    if flag { 1 } else { 0 }
+    write_chips(out, chips)
 }
 
 // How the frame was sent.
@@ -58,10 +49,9 @@ fn write_sent(out: &mut String, d: Delivery) -> Result<(), AllocError>
             "delivered mode={} seed={} aggregation={}",
             d.mode.number(),
             d.seed,
-            bit(d.aggregation)
+            u8::from(d.aggregation)
         ),
-    )?;
-    Ok(())
+    )
 }
 
 // How it was read.
@@ -72,12 +62,9 @@ fn write_got(out: &mut String, d: Delivery, buffers: Buffers) -> Result<(), Allo
         out,
         format_args!(
             " length={} mended={} buffers={}",
-            d.length,
-            d.mended,
-            buffers.text()
+            d.length, d.mended, buffers
         ),
-    )?;
-    Ok(())
+    )
 }
 
 // The MAC header and the body.
@@ -87,8 +74,7 @@ fn write_octet_fields(out: &mut String, mac: &[u8], body: &[u8]) -> Result<(), A
     put(out, " mac=")?;
     write_octets(out, mac)?;
     put(out, " body=")?;
-    write_octets(out, body)?;
-    Ok(())
+    write_octets(out, body)
 }
 
 fn write_delivered(
@@ -102,8 +88,7 @@ fn write_delivered(
 {
     write_sent(out, d)?;
     write_got(out, d, buffers)?;
-    write_octet_fields(out, mac, body)?;
-    Ok(())
+    write_octet_fields(out, mac, body)
 }
 
 fn write_cause(out: &mut String, cause: Option<WordFault>) -> Result<(), AllocError>
@@ -119,7 +104,7 @@ fn write_left(out: &mut String, buffers: Option<Buffers>) -> Result<(), AllocErr
     ensures { OnOk result (string_bytes out.new ≡ string_bytes out.old ++ left_text buffers) }
 {
     if let Some(left) = buffers {
-        put(out, format_args!(" buffers={}", left.text()))?;
+        put(out, format_args!(" buffers={}", left))?;
     }
     Ok(())
 }
@@ -142,8 +127,7 @@ fn write_refused(
         ),
     )?;
     write_cause(out, cause)?;
-    write_left(out, buffers)?;
-    Ok(())
+    write_left(out, buffers)
 }
 
 fn write_part(out: &mut String, place: usize, chips: &[u8]) -> Result<(), AllocError>
@@ -153,8 +137,7 @@ fn write_part(out: &mut String, place: usize, chips: &[u8]) -> Result<(), AllocE
         out,
         format_args!("part place={place} chips={} ", chips.len()),
     )?;
-    write_chips(out, chips)?;
-    Ok(())
+    write_chips(out, chips)
 }
 
 // A word, and octets behind it.
@@ -162,16 +145,14 @@ fn write_named(out: &mut String, name: &str, octets: &[u8]) -> Result<(), AllocE
     ensures { OnOk result (string_bytes out.new ≡ string_bytes out.old ++ named_text name.now octets.now) }
 {
     put(out, format_args!("{name} "))?;
-    write_octets(out, octets)?;
-    Ok(())
+    write_octets(out, octets)
 }
 
 fn write_proposed(out: &mut String, changes: &[Change]) -> Result<(), AllocError>
     ensures { OnOk result (string_bytes out.new ≡ string_bytes out.old ++ proposed_text changes.now) }
 {
     put(out, "proposed ")?;
-    write_changes(out, changes)?;
-    Ok(())
+    write_changes(out, changes)
 }
 
 // The answer behind the text.

@@ -20,7 +20,7 @@ use writing::put;
 fn write_wrong(out: &mut String, line: usize, wrong: Wrong) -> Result<(), AllocError>
     ensures { OnOk result (string_bytes out.new ≡ string_bytes out.old ++ wrong_line line wrong) }
 {
-    put(out, format_args!("error {line}: {}", wrong.text()))?;
+    put(out, format_args!("error {line}: {wrong}"))?;
     Ok(())
 }
 

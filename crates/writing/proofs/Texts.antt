@@ -1,5 +1,5 @@
 -- Texts that are written one behind the other, and octets as digits.
-use Rattle.std.proofs.Common.{◌≡◌, ℕ, ◌-◌, ◌^◌, ◌<◌, false, List, [], ◌∷◌, ◌++◌, map, Some, refl, ap, ap₂, ◌∙◌, arith}
+use Rattle.std.proofs.Common.{◌≡◌, ℕ, ◌-◌, ◌^◌, ◌<◌, false, List, [], ◌∷◌, ◌++◌, map, Some, Result, OnOk, refl, subst, ap, ap₂, ◌∙◌, arith}
 use Rattle.std.specs.Fmt.{digits, digits_output, styled_digits_output, format_spec}
 use Rattle.std.specs.Str.{encode_utf8_all}
 use Rattle.std.proofs.lemmas.Fmt.{hex_byte}
@@ -9,8 +9,8 @@ use Rattle.std.proofs.lemmas.Bool.Decides.{nat_tests}
 use Rattle.writing.specs.Chips.{chip_char}
 use Rattle.writing.specs.Octets.{octet_written}
 
-pub after : (start first second a b : List ℕ) → first ≡ start ++ a → second ≡ first ++ b → second ≡ start ++ (a ++ b)
-after start first second a b e f = f ∙ ap (λ (s : List ℕ). s ++ b) e ∙ append_assoc start a b
+pub then_text : {E : Type 0} (r : Result (Unit {0}) E) (start first second a b : List ℕ) → first ≡ start ++ a → OnOk r (second ≡ first ++ b) → OnOk r (second ≡ start ++ (a ++ b))
+then_text r start first second a b e = subst (λ (cs : List ℕ). OnOk r (second ≡ cs)) (ap (λ (s : List ℕ). s ++ b) e ∙ append_assoc start a b)
 
 pub two_digits : (d : _) (s : _) (o : ℕ) → o < 256 → digits_output d ≡ Some (digits 16 false o) → s ≡ format_spec 32 0 4 2 (2 ^ 64 - 1) → styled_digits_output d s ≡ Some (octet_written o)
 two_digits d s o lt e f = rw (f, e) (ap (λ (bs : List ℕ). Some bs) (hex_byte false o lt))

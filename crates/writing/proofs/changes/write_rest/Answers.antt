@@ -1,11 +1,11 @@
-use Rattle.std.proofs.Common.{◌≡◌, ℕ, ◌+◌, List, ◌++◌, get_or, drop, string_bytes, codes, sym, refl, ap, ◌∙◌}
+use Rattle.std.proofs.Common.{◌≡◌, ℕ, ◌+◌, List, ◌++◌, get_or, drop, Ok, string_bytes, codes, sym, refl, ap, ◌∙◌}
 use lib.Utf8.{encode}
 use Rattle.std.proofs.lemmas.List.{at_drop_more, at_drop_all, append_assoc, append-nil}
 use Rattle.std.proofs.lemmas.Slice.{pushed}
 use Rattle.words.specs.declared.change.Change.{Change}
 use Rattle.words.specs.Changes.{blank}
 use Rattle.writing.specs.Changes.{change_written, listed}
-use Rattle.writing.proofs.Texts.{after}
+use Rattle.writing.proofs.Texts.{then_text}
 use Rattle.writing.proofs.changes.write_rest.Goals as goal
 
 pub loop-change-preserved : goal.loop-change-preserved
@@ -19,7 +19,7 @@ loop-change-preserved c =
     let text : List ℕ = change_written (get_or cs i blank) in
     let comma : first ≡ start ++ codes "," = pushed {was = start} (codes ",") refl c.in_ok-push.was c.push.ensures.bytes in
     let wrote : second ≡ first ++ text = c.in_ok-write_change.ensures in
-    let both : second ≡ start ++ (codes "," ++ text) = after start first second (codes ",") text comma wrote in
+    let both : second ≡ start ++ (codes "," ++ text) = then_text {E = Unit {0}} (Ok tt) start first second (codes ",") text comma wrote in
     ap (λ (bs : List ℕ). bs ++ listed (drop (i + 1) cs)) both
     ∙ append_assoc start (codes "," ++ text) (listed (drop (i + 1) cs))
     ∙ ap (λ (bs : List ℕ). start ++ bs) (sym (at_drop_more listed cs i blank c.loop-change-test.true))
