@@ -32,8 +32,8 @@ fn write_built(
     put(
         out,
         format_args!(
-            "built seed={} chips={} buffers={} ",
-            built.seed, built.chips, buffers
+            "built seed={} chips={} buffers={buffers} ",
+            built.seed, built.chips
         ),
     )?;
     write_chips(out, chips)
@@ -60,10 +60,7 @@ fn write_got(out: &mut String, d: Delivery, buffers: Buffers) -> Result<(), Allo
 {
     put(
         out,
-        format_args!(
-            " length={} mended={} buffers={}",
-            d.length, d.mended, buffers
-        ),
+        format_args!(" length={} mended={} buffers={buffers}", d.length, d.mended),
     )
 }
 
@@ -104,7 +101,7 @@ fn write_left(out: &mut String, buffers: Option<Buffers>) -> Result<(), AllocErr
     ensures { OnOk result (string_bytes out.new ≡ string_bytes out.old ++ left_text buffers) }
 {
     if let Some(left) = buffers {
-        put(out, format_args!(" buffers={}", left))?;
+        put(out, format_args!(" buffers={left}"))?;
     }
     Ok(())
 }

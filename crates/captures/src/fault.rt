@@ -24,9 +24,7 @@ impl fmt::Display for LineFault {
             LineFault::NoCount => write!(f, "no channel count"),
             LineFault::NoChips => write!(f, "no chips"),
             LineFault::TooLong => write!(f, "longer than any window"),
-            LineFault::BadChip(place) => {
-                write!(f, "a chip that is neither 0 nor 1, at {place}")
-            }
+            LineFault::BadChip(place) => { write!(f, "a chip that is neither 0 nor 1, at {place}") }
         }
     }
 }
