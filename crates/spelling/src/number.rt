@@ -1,16 +1,16 @@
 // Decimal numbers.
 ghost use Rattle.std.specs.Prelude.{◌≡◌, ◌≤◌, IfSome};
+ghost use Rattle.spelling.specs.Lists.{and_then};
 ghost use Rattle.spelling.specs.Numbers.{number_read, longer as longer_by, digits_from};
 
-// A number with one digit more, unless the octet is no digit or the number gets too large.
-fn longer(n: u32, octet: u8, most: u32) -> Option<u32>
-    ensures value { result ≡ longer_by most n octet }
-    ensures bound { IfSome result (λ m. m ≤ most) }
+// A number with one digit more; none where there was none, the octet is no digit, or the number gets too large.
+fn longer(n: Option<u32>, octet: u8, most: u32) -> Option<u32>
+    ensures { result ≡ and_then n (λ m. longer_by most m octet) }
 {
     if !octet.is_ascii_digit() {
         return None;
     }
-    let more = n.checked_mul(10)?.checked_add(u32::from(octet - b'0'))?;
+    let more = n?.checked_mul(10)?.checked_add(u32::from(octet - b'0'))?;
     (more <= most).then_some(more)
 }
 
@@ -18,11 +18,7 @@ fn read_digits(text: &[u8], most: u32) -> Option<u32>
     ensures value { result ≡ digits_from most 0 text.now }
     ensures bound { IfSome result (λ n. n ≤ most) }
 {
-    let mut n = 0u32;
-    for c in text {
-        n = longer(n, *c, most)?;
-    }
-    Some(n)
+    text.iter().fold(Some(0), |n, c| longer(n, *c, most))
 }
 
 // A number of one to nine decimal digits that is not above the most.

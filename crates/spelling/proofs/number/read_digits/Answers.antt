@@ -1,31 +1,16 @@
-use Rattle.std.proofs.Common.{◌≡◌, ℕ, ◌+◌, ◌<◌, List, length, get_or, drop, Some, None, Option, sym, ap, ◌∙◌}
-use Rattle.std.proofs.lemmas.List.{at_drop_more, at_drop_all}
+use Rattle.std.proofs.Common.{◌≡◌, ◌≤◌, Some, IfSome, sym, subst, ◌∙◌, rules, arith}
+use Rattle.std.proofs.lemmas.Iterator.{YieldsList-from_slice}
+use Rattle.std.proofs.lemmas.Iterator.Consumers.{fold_from_yields_List}
 use Rattle.spelling.specs.Lists.{and_then}
 use Rattle.spelling.specs.Numbers.{longer, digits_from}
+use Rattle.spelling.proofs.Numbers.{folded, bounded}
 use Rattle.spelling.proofs.number.read_digits.Goals as goal
 
-step : (most n i : ℕ) (t : List ℕ) (o : Option ℕ) → i < length t → o ≡ longer most n (get_or t i 0) → digits_from most n (drop i t) ≡ and_then o (λ m. digits_from most m (drop (i + 1) t))
-step most n i t o lt e =
-    at_drop_more (digits_from most n) t i 0 lt ∙ ap (λ (p : Option ℕ). and_then p (λ m. digits_from most m (drop (i + 1) t))) (sym e)
-
-pub returns-in_err-n : goal.returns-in_err-n
-returns-in_err-n c = record {
-  value =
-      c.from_residual.ensures
-      ∙ sym (step c.args.most c.loop-c.n c.loop-c.c-index c.args.text.now None c.loop-c-test.true c.in_err-n.ensures.value)
-      ∙ c.loop-c.invariant.0;
-  bound = rw c.from_residual.ensures tt;
-}
-
-pub loop-c-preserved : goal.loop-c-preserved
-loop-c-preserved c = (
-  sym (step c.args.most c.loop-c.n c.loop-c.c-index c.args.text.now (Some c.in_ok-n.n) c.loop-c-test.true c.in_ok-n.ensures.value)
-      ∙ c.loop-c.invariant.0,
-  c.in_ok-n.ensures.bound,
-)
-
 pub returns : goal.returns
-returns c = record {
-  value = sym (at_drop_all (digits_from c.args.most c.loop-c.n) c.args.text.now c.loop-c.c-index c.loop-c-test.false) ∙ c.loop-c.invariant.0;
-  bound = c.loop-c.invariant.1;
-}
+returns c =
+    let most = c.args.most in
+    let t = c.args.text.now in
+    let value : c.fold.result ≡ digits_from most 0 t =
+    fold_from_yields_List _ (λ p d. and_then p (λ n. longer most n d)) (Some 0) c.fold.result c.fold.ensures.ran (YieldsList-from_slice t cc) (λ a x b q k. search rules)
+    ∙ folded most (Some 0) t in
+    record { value = value; bound = subst (λ o. IfSome o (λ n. n ≤ most)) (sym value) (bounded most (Some 0) t (omega arith)) }
