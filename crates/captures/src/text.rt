@@ -34,6 +34,7 @@ fn without_return(line: &[u8]) -> &[u8]
 }
 
 // The first line, without its newline and a carriage return at its end, and the text behind it.
+#[tactic(auto, unfolding(crate::specs::Lines::line_of))]
 pub fn split_line(text: &[u8]) -> (&[u8], &[u8])
     ensures line { result.0.now ≡ line_of text.now }
     ensures rest { result.1.now ≡ behind 10 text.now }

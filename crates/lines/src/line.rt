@@ -1,6 +1,6 @@
 // Lines: which are passed over, and what of the others is read.
-ghost use Rattle.std.specs.Prelude.{◌≡◌, ℕ, ◌+◌, ◌<◌, true, false, length, MatchOption};
-ghost use Rattle.lines.specs.Lines.{passed_over, begins_comment, uncommented};
+ghost use Rattle.std.specs.Prelude.{◌≡◌, ◌+◌, ◌-◌, ◌<◌, true, length, MatchOption};
+ghost use Rattle.lines.specs.Lines.{passed_over, begins_comment, NoneBelow, uncommented};
 
 // Whether a line gets no answer: it is empty, or its first octet is a number sign.
 pub fn is_passed_over(line: &[u8]) -> bool
@@ -11,7 +11,7 @@ pub fn is_passed_over(line: &[u8]) -> bool
 
 // The place of the first space that a number sign follows.
 fn comment_place(line: &[u8]) -> Option<usize>
-    ensures { MatchOption result ((k : ℕ) → k + 1 < length line.now → begins_comment line.now k ≡ false) (λ i. (i + 1 < length line.now) × (begins_comment line.now i ≡ true) × ((k : ℕ) → k < i → begins_comment line.now k ≡ false)) }
+    ensures { MatchOption result (NoneBelow (length line.now - 1) line.now) (λ i. (i + 1 < length line.now) × (begins_comment line.now i ≡ true) × NoneBelow i line.now) }
 {
     line.windows(2).position(|pair| pair == b" #".as_slice())
 }
