@@ -20,7 +20,7 @@ use Rattle.lines.specs.declared.wrong.Wrong.TheVariants.{Count, Number, Octets, 
 abbrev pub Reads : {X Y : Type 0} → (Y → X) → Result X Wrong → Result Y Stop → Type 0
 Reads view said (Ok y) = said ≡ Ok (view y)
 Reads view said (Err (stop_wrong w)) = said ≡ Err w
-Reads view said (Err Memory) = Unit {0}
+Reads view said (Err (Memory e)) = Unit {0}
 
 -- the next word is read only where this one is right
 abbrev pub bind : {X Y : Type 0} → Result X Wrong → (X → Result Y Wrong) → Result Y Wrong

@@ -5,7 +5,6 @@ ghost use Rattle.chosen.specs.Names.{leaf_named, pile_named, deeper as deeper_by
 use crate::leaf::Leaf;
 use crate::pile::Pile;
 use mending::Then;
-use spelling::same;
 
 // What a text may name.
 pub trait Named: Sized {
@@ -20,14 +19,11 @@ impl Named for Leaf {
     ghost named = { leaf_named };
 
     fn from_name(text: &[u8]) -> Option<Leaf> {
-        if same(text, b"still") {
-            Some(Leaf::Still)
-        } else if same(text, b"single") {
-            Some(Leaf::Single)
-        } else if same(text, b"full") {
-            Some(Leaf::Full)
-        } else {
-            None
+        match text {
+            b"still" => Some(Leaf::Still),
+            b"single" => Some(Leaf::Single),
+            b"full" => Some(Leaf::Full),
+            _ => None,
         }
     }
 }
@@ -57,11 +53,11 @@ fn first_comma(text: &[u8]) -> Option<usize>
     ensures within { IfSome result (λ p. p < length text.now) }
 {
     let mut depth = 0usize;
-    for (i, c) in text.iter().enumerate() {
-        if parts(depth, *c) {
+    for (i, &c) in text.iter().enumerate() {
+        if parts(depth, c) {
             return Some(i);
         }
-        depth = deeper(depth, *c);
+        depth = deeper(depth, c);
     }
     None
 }
@@ -70,11 +66,7 @@ fn first_comma(text: &[u8]) -> Option<usize>
 fn inside(text: &[u8]) -> Option<&[u8]>
     ensures { MatchOption result (is_then text.now ≡ false) (λ u. (is_then text.now ≡ true) × (u.now ≡ inner text.now)) }
 {
-    let size = text.len();
-    if size < 6 || !same(&text[0..5], b"then(") || text[size - 1] != b')' {
-        return None;
-    }
-    Some(&text[5..size - 1])
+    text.strip_prefix(b"then(")?.strip_suffix(b")")
 }
 
 // A and B of `then(A,B)`.
@@ -91,7 +83,7 @@ impl<M: Named + Drop> Named for Pile<M> {
 
     fn from_name(text: &[u8]) -> Option<Pile<M>> {
         let Some((a, b)) = sides(text) else {
-            return Some(Pile::One(M::from_name(text)?));
+            return M::from_name(text).map(Pile::One);
         };
         let first = M::from_name(a)?;
         let second = M::from_name(b)?;

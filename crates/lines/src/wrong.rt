@@ -42,14 +42,14 @@ impl fmt::Display for Wrong {
 #[derive(Debug, Clone, Copy, PartialEq, Eq)]
 pub enum Stop {
     Wrong(Wrong),
-    Memory,
+    Memory(AllocError),
 }
 
 impl From<AllocError> for Stop {
-    ghost from_gives = { λ _ r. r ≡ Memory };
+    ghost from_gives = { λ e r. r ≡ Memory e };
 
-    fn from(_e: AllocError) -> Stop {
-        Stop::Memory
+    fn from(e: AllocError) -> Stop {
+        Stop::Memory(e)
     }
 }
 
