@@ -1,22 +1,24 @@
 // Reading a call from the words of a line.
+ghost use Rattle.std.specs.Prelude.{◌≡◌, vec_items};
 ghost use Rattle.calls.specs.Said.{Reads, number_at, octets_at, mender_at};
-ghost use Rattle.calls.specs.Calls.{said, opens, asks_mode, asks_refusal, asks_codeword, checks, proposes, mends, build_said, read_said, header_said, block_said, encode_said, accept_said, one_said, mender_said, station_said, call_said};
+ghost use Rattle.calls.specs.Calls.{said, station_view, opens, build_said, read_said, header_said, block_said, encode_said, accept_said, one_said, mender_said, station_said, call_said};
 
 use crate::call::{Build, Call, Read, StationCall};
-use crate::word::{changes, chips, flag, mender, number, octets, room, small, takes, word};
+use crate::word::Words;
+use chosen::Mending;
 use lines::{Stop, Wrong};
 use spelling::same;
 use std::alloc::Global;
 
-fn read_build(heap: Global, text: &[u8]) -> Result<Call, Stop>
-    ensures { Reads said (build_said text.now) result }
+fn read_build(words: Words<'_>) -> Result<Call, Stop>
+    ensures { Reads said (build_said words.entry.text.now) result }
 {
-    takes(text, 5, 6)?;
-    let mode = small(text, 1)?;
-    let aggregation = flag(text, 2)?;
-    let mac = octets(heap, text, 3)?;
-    let body = octets(heap, text, 4)?;
-    let room = room(text, 5, 50_176)?;
+    words.takes(5, 6)?;
+    let mode = words.small(1)?;
+    let aggregation = words.flag(2)?;
+    let mac = words.octets(3)?;
+    let body = words.octets(4)?;
+    let room = words.room(5, 50_176)?;
     Ok(Call::Station(StationCall::Build(Build {
         mode,
         aggregation,
@@ -26,23 +28,21 @@ fn read_build(heap: Global, text: &[u8]) -> Result<Call, Stop>
     })))
 }
 
-fn read_header(heap: Global, text: &[u8]) -> Result<Call, Stop>
-    ensures { Reads said (header_said text.now) result }
+fn read_header(words: Words<'_>) -> Result<Call, Stop>
+    ensures { Reads said (header_said words.entry.text.now) result }
 {
-    takes(text, 3, 3)?;
-    let channels = small(text, 1)?;
-    let window = chips(heap, text, 2)?;
-    Ok(Call::Header(channels, window))
+    words.takes(3, 3)?;
+    Ok(Call::Header(words.small(1)?, words.chips(2)?))
 }
 
-fn read_read(heap: Global, text: &[u8]) -> Result<Call, Stop>
-    ensures { Reads said (read_said text.now) result }
+fn read_read(words: Words<'_>) -> Result<Call, Stop>
+    ensures { Reads said (read_said words.entry.text.now) result }
 {
-    takes(text, 3, 5)?;
-    let channels = small(text, 1)?;
-    let window = chips(heap, text, 2)?;
-    let body_room = room(text, 3, 2048)?;
-    let mac_room = room(text, 4, 10)?;
+    words.takes(3, 5)?;
+    let channels = words.small(1)?;
+    let window = words.chips(2)?;
+    let body_room = words.room(3, 2048)?;
+    let mac_room = words.room(4, 10)?;
     Ok(Call::Station(StationCall::Read(Read {
         channels,
         window,
@@ -51,107 +51,82 @@ fn read_read(heap: Global, text: &[u8]) -> Result<Call, Stop>
     })))
 }
 
-fn read_block(heap: Global, text: &[u8]) -> Result<Call, Stop>
-    ensures { Reads said (block_said text.now) result }
+fn read_block(words: Words<'_>) -> Result<Call, Stop>
+    ensures { Reads said (block_said words.entry.text.now) result }
 {
-    takes(text, 4, 4)?;
-    let mode = small(text, 1)?;
-    let block = number(text, 2, 65_535)?;
-    let window = chips(heap, text, 3)?;
-    Ok(Call::Block(mode, block as usize, window))
+    words.takes(4, 4)?;
+    let mode = words.small(1)?;
+    let block = words.number(2, 65_535)?;
+    Ok(Call::Block(mode, block as usize, words.chips(3)?))
 }
 
-fn read_encode(heap: Global, text: &[u8]) -> Result<Call, Stop>
-    ensures { Reads said (encode_said text.now) result }
+fn read_encode(words: Words<'_>) -> Result<Call, Stop>
+    ensures { Reads said (encode_said words.entry.text.now) result }
 {
-    takes(text, 2, 3)?;
-    let message = octets(heap, text, 1)?;
-    let room = room(text, 2, 16)?;
-    Ok(Call::Encode(message, room))
+    words.takes(2, 3)?;
+    Ok(Call::Encode(words.octets(1)?, words.room(2, 16)?))
 }
 
-fn read_accept(heap: Global, text: &[u8]) -> Result<Call, Stop>
-    ensures { Reads said (accept_said text.now) result }
+fn read_accept(words: Words<'_>) -> Result<Call, Stop>
+    ensures { Reads said (accept_said words.entry.text.now) result }
 {
-    takes(text, 3, 3)?;
-    let word = octets(heap, text, 1)?;
-    let changes = changes(heap, text, 2)?;
-    Ok(Call::Accept(word, changes))
+    words.takes(3, 3)?;
+    Ok(Call::Accept(words.octets(1)?, words.changes(2)?))
 }
 
-fn read_propose(heap: Global, text: &[u8]) -> Result<Call, Stop>
-    ensures { Reads said (mender_said proposes text.now) result }
+fn read_open(words: Words<'_>) -> Result<Call, Stop>
+    ensures { Reads said (one_said (mender_at words.entry.text.now 1) opens words.entry.text.now) result }
 {
-    takes(text, 3, 3)?;
-    let mender = mender(text, 1)?;
-    let word = octets(heap, text, 2)?;
-    Ok(Call::Propose(mender, word))
+    words.takes(2, 2)?;
+    Ok(Call::Open(words.mender(1)?))
 }
 
-fn read_mend(heap: Global, text: &[u8]) -> Result<Call, Stop>
-    ensures { Reads said (mender_said mends text.now) result }
+// A call with a mender and a word for it.
+fn read_mended<F: FnOnce(Mending, Vec<u8>) -> Call>(words: Words<'_>, make: F) -> Result<Call, Stop>
+    requires { F.IsAlwaysCallable make }
+    ensures { (view : _) → ((m : _) (w : _) (call : _) → F.post make m w call → said call ≡ view m (vec_items w)) → Reads said (mender_said view words.entry.text.now) result }
 {
-    takes(text, 3, 3)?;
-    let mender = mender(text, 1)?;
-    let word = octets(heap, text, 2)?;
-    Ok(Call::Mend(mender, word))
+    words.takes(3, 3)?;
+    let mender = words.mender(1)?;
+    let word = words.octets(2)?;
+    Ok(make(mender, word))
 }
 
-fn read_codeword(heap: Global, text: &[u8]) -> Result<Call, Stop>
-    ensures { Reads said (one_said (octets_at text.now 1) asks_codeword text.now) result }
+// A call with one word, a list of octets.
+fn read_octets<F: FnOnce(Vec<u8>) -> Call>(words: Words<'_>, make: F) -> Result<Call, Stop>
+    requires { F.IsAlwaysCallable make }
+    ensures { (view : _) → ((w : _) (call : _) → F.post make w call → said call ≡ view (vec_items w)) → Reads said (one_said (octets_at words.entry.text.now 1) view words.entry.text.now) result }
 {
-    takes(text, 2, 2)?;
-    let word = octets(heap, text, 1)?;
-    Ok(Call::Codeword(word))
+    words.takes(2, 2)?;
+    let octets = words.octets(1)?;
+    Ok(make(octets))
 }
 
-fn read_hcs(heap: Global, text: &[u8]) -> Result<Call, Stop>
-    ensures { Reads said (one_said (octets_at text.now 1) checks text.now) result }
+// A question about a number.
+fn read_question<F: FnOnce(u8) -> StationCall>(words: Words<'_>, ask: F) -> Result<Call, Stop>
+    requires { F.IsAlwaysCallable ask }
+    ensures { (view : _) → ((n : _) (call : _) → F.post ask n call → station_view call ≡ view n) → Reads said (one_said (number_at 255 words.entry.text.now 1) view words.entry.text.now) result }
 {
-    takes(text, 2, 2)?;
-    let octets = octets(heap, text, 1)?;
-    Ok(Call::Hcs(octets))
-}
-
-fn read_open(text: &[u8]) -> Result<Call, Stop>
-    ensures { Reads said (one_said (mender_at text.now 1) opens text.now) result }
-{
-    takes(text, 2, 2)?;
-    let mender = mender(text, 1)?;
-    Ok(Call::Open(mender))
-}
-
-fn read_mode(text: &[u8]) -> Result<Call, Stop>
-    ensures { Reads said (one_said (number_at 255 text.now 1) asks_mode text.now) result }
-{
-    takes(text, 2, 2)?;
-    let mode = small(text, 1)?;
-    Ok(Call::Station(StationCall::Mode(mode)))
-}
-
-fn read_refusal(text: &[u8]) -> Result<Call, Stop>
-    ensures { Reads said (one_said (number_at 255 text.now 1) asks_refusal text.now) result }
-{
-    takes(text, 2, 2)?;
-    let number = small(text, 1)?;
-    Ok(Call::Station(StationCall::Refusal(number)))
+    words.takes(2, 2)?;
+    let number = words.small(1)?;
+    Ok(Call::Station(ask(number)))
 }
 
 // A call on a station.
-fn read_station_call(heap: Global, text: &[u8]) -> Result<Call, Stop>
-    ensures { Reads said (station_said text.now) result }
+fn read_station_call(words: Words<'_>) -> Result<Call, Stop>
+    ensures { Reads said (station_said words.entry.text.now) result }
 {
-    let name = word(text, 0);
+    let name = words.word(0);
     if same(name, b"build") {
-        read_build(heap, text)
+        read_build(words)
     } else if same(name, b"read") {
-        read_read(heap, text)
+        read_read(words)
     } else if same(name, b"open") {
-        read_open(text)
+        read_open(words)
     } else if same(name, b"mode") {
-        read_mode(text)
+        read_question(words, StationCall::Mode)
     } else if same(name, b"refusal") {
-        read_refusal(text)
+        read_question(words, StationCall::Refusal)
     } else {
         Err(Stop::Wrong(Wrong::Call))
     }
@@ -161,24 +136,25 @@ fn read_station_call(heap: Global, text: &[u8]) -> Result<Call, Stop>
 pub fn read_call(heap: Global, text: &[u8]) -> Result<Call, Stop>
     ensures { Reads said (call_said text.now) result }
 {
-    let name = word(text, 0);
+    let words = Words { heap, text };
+    let name = words.word(0);
     if same(name, b"header") {
-        read_header(heap, text)
+        read_header(words)
     } else if same(name, b"block") {
-        read_block(heap, text)
+        read_block(words)
     } else if same(name, b"encode") {
-        read_encode(heap, text)
+        read_encode(words)
     } else if same(name, b"accept") {
-        read_accept(heap, text)
+        read_accept(words)
     } else if same(name, b"codeword") {
-        read_codeword(heap, text)
+        read_octets(words, Call::Codeword)
     } else if same(name, b"hcs") {
-        read_hcs(heap, text)
+        read_octets(words, Call::Hcs)
     } else if same(name, b"propose") {
-        read_propose(heap, text)
+        read_mended(words, Call::Propose)
     } else if same(name, b"mend") {
-        read_mend(heap, text)
+        read_mended(words, Call::Mend)
     } else {
-        read_station_call(heap, text)
+        read_station_call(words)
     }
 }
