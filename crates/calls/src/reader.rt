@@ -1,14 +1,14 @@
 // Reading a call from the words of a line.
 ghost use Rattle.std.specs.Prelude.{◌≡◌, vec_items};
 ghost use Rattle.calls.specs.Said.{Reads, number_at, octets_at, mender_at};
-ghost use Rattle.calls.specs.Calls.{said, station_view, opens, build_said, read_said, header_said, block_said, encode_said, accept_said, one_said, mender_said, station_said, call_said};
+ghost use Rattle.calls.specs.Calls.{said, station_view, opens, build_said, read_said, header_said, block_said, encode_said, accept_said, one_said, mender_said, call_said};
 
 use crate::call::{Build, Call, Read, StationCall};
 use crate::word::Words;
 use chosen::Mending;
 use lines::{Stop, Wrong};
-use spelling::same;
 use std::alloc::Global;
+use std::str;
 
 fn read_build(words: Words<'_>) -> Result<Call, Stop>
     ensures { Reads said (build_said words.entry.text.now) result }
@@ -84,7 +84,8 @@ fn read_open(words: Words<'_>) -> Result<Call, Stop>
 // A call with a mender and a word for it.
 fn read_mended<F: FnOnce(Mending, Vec<u8>) -> Call>(words: Words<'_>, make: F) -> Result<Call, Stop>
     requires { F.IsAlwaysCallable make }
-    ensures { (view : _) → ((m : _) (w : _) (call : _) → F.post make m w call → said call ≡ view m (vec_items w)) → Reads said (mender_said view words.entry.text.now) result }
+    ensures { (view : _) → ((m : _) (w : _) (call : _) → F.post make m w call → said call ≡ view m (vec_items w))
+        → Reads said (mender_said view words.entry.text.now) result }
 {
     words.takes(3, 3)?;
     let mender = words.mender(1)?;
@@ -95,7 +96,8 @@ fn read_mended<F: FnOnce(Mending, Vec<u8>) -> Call>(words: Words<'_>, make: F) -
 // A call with one word, a list of octets.
 fn read_octets<F: FnOnce(Vec<u8>) -> Call>(words: Words<'_>, make: F) -> Result<Call, Stop>
     requires { F.IsAlwaysCallable make }
-    ensures { (view : _) → ((w : _) (call : _) → F.post make w call → said call ≡ view (vec_items w)) → Reads said (one_said (octets_at words.entry.text.now 1) view words.entry.text.now) result }
+    ensures { (view : _) → ((w : _) (call : _) → F.post make w call → said call ≡ view (vec_items w))
+        → Reads said (one_said (octets_at words.entry.text.now 1) view words.entry.text.now) result }
 {
     words.takes(2, 2)?;
     let octets = words.octets(1)?;
@@ -105,31 +107,12 @@ fn read_octets<F: FnOnce(Vec<u8>) -> Call>(words: Words<'_>, make: F) -> Result<
 // A question about a number.
 fn read_question<F: FnOnce(u8) -> StationCall>(words: Words<'_>, ask: F) -> Result<Call, Stop>
     requires { F.IsAlwaysCallable ask }
-    ensures { (view : _) → ((n : _) (call : _) → F.post ask n call → station_view call ≡ view n) → Reads said (one_said (number_at 255 words.entry.text.now 1) view words.entry.text.now) result }
+    ensures { (view : _) → ((n : _) (call : _) → F.post ask n call → station_view call ≡ view n)
+        → Reads said (one_said (number_at 255 words.entry.text.now 1) view words.entry.text.now) result }
 {
     words.takes(2, 2)?;
     let number = words.small(1)?;
     Ok(Call::Station(ask(number)))
-}
-
-// A call on a station.
-fn read_station_call(words: Words<'_>) -> Result<Call, Stop>
-    ensures { Reads said (station_said words.entry.text.now) result }
-{
-    let name = words.word(0);
-    if same(name, b"build") {
-        read_build(words)
-    } else if same(name, b"read") {
-        read_read(words)
-    } else if same(name, b"open") {
-        read_open(words)
-    } else if same(name, b"mode") {
-        read_question(words, StationCall::Mode)
-    } else if same(name, b"refusal") {
-        read_question(words, StationCall::Refusal)
-    } else {
-        Err(Stop::Wrong(Wrong::Call))
-    }
 }
 
 // The call that a text says, or what is wrong with it.
@@ -137,24 +120,23 @@ pub fn read_call(heap: Global, text: &[u8]) -> Result<Call, Stop>
     ensures { Reads said (call_said text.now) result }
 {
     let words = Words { heap, text };
-    let name = words.word(0);
-    if same(name, b"header") {
-        read_header(words)
-    } else if same(name, b"block") {
-        read_block(words)
-    } else if same(name, b"encode") {
-        read_encode(words)
-    } else if same(name, b"accept") {
-        read_accept(words)
-    } else if same(name, b"codeword") {
-        read_octets(words, Call::Codeword)
-    } else if same(name, b"hcs") {
-        read_octets(words, Call::Hcs)
-    } else if same(name, b"propose") {
-        read_mended(words, Call::Propose)
-    } else if same(name, b"mend") {
-        read_mended(words, Call::Mend)
-    } else {
-        read_station_call(words)
+    let Ok(name) = str::from_utf8(words.word(0)) else {
+        return Err(Stop::Wrong(Wrong::Call));
+    };
+    match name {
+        "header" => read_header(words),
+        "block" => read_block(words),
+        "encode" => read_encode(words),
+        "accept" => read_accept(words),
+        "codeword" => read_octets(words, Call::Codeword),
+        "hcs" => read_octets(words, Call::Hcs),
+        "propose" => read_mended(words, Call::Propose),
+        "mend" => read_mended(words, Call::Mend),
+        "build" => read_build(words),
+        "read" => read_read(words),
+        "open" => read_open(words),
+        "mode" => read_question(words, StationCall::Mode),
+        "refusal" => read_question(words, StationCall::Refusal),
+        _ => Err(Stop::Wrong(Wrong::Call)),
     }
 }

@@ -1,15 +1,25 @@
 use Rattle.std.proofs.Common.{rules}
-use Rattle.calls.specs.Calls.{asks_codeword, checks, proposes, mends}
+use Rattle.calls.specs.Calls.{asks_mode, asks_refusal, asks_codeword, checks, proposes, mends}
+use Rattle.calls.proofs.Nameless.{nameless}
 use Rattle.calls.proofs.reader.read_call.Goals as goal
 
-pub returns-then-same-5 : goal.returns-then-same-5
-returns-then-same-5 c = let e = c.read_octets.ensures asks_codeword (λ w call p. search rules) in search rules
+pub returns-in_default : goal.returns-in_default
+returns-in_default c = nameless c.args.text.now c.word.result.now c.word.ensures c.in_default.ensures.cases.0
 
-pub returns-then-same-6 : goal.returns-then-same-6
-returns-then-same-6 c = let e = c.read_octets-then-same-6.ensures checks (λ w call p. search rules) in search rules
+pub returns-in-codeword : goal.returns-in-codeword
+returns-in-codeword c = let e = c.read_octets.ensures asks_codeword (λ w call p. search rules) in search rules
 
-pub returns-then-same-7 : goal.returns-then-same-7
-returns-then-same-7 c = let e = c.read_mended.ensures proposes (λ m w call p. search rules) in search rules
+pub returns-in-hcs : goal.returns-in-hcs
+returns-in-hcs c = let e = c.read_octets-in-hcs.ensures checks (λ w call p. search rules) in search rules
 
-pub returns-then-same-8 : goal.returns-then-same-8
-returns-then-same-8 c = let e = c.read_mended-then-same-8.ensures mends (λ m w call p. search rules) in search rules
+pub returns-in-propose : goal.returns-in-propose
+returns-in-propose c = let e = c.read_mended.ensures proposes (λ m w call p. search rules) in search rules
+
+pub returns-in-mend : goal.returns-in-mend
+returns-in-mend c = let e = c.read_mended-in-mend.ensures mends (λ m w call p. search rules) in search rules
+
+pub returns-in-mode : goal.returns-in-mode
+returns-in-mode c = let e = c.read_question.ensures asks_mode (λ n call p. search rules) in search rules
+
+pub returns-in-refusal : goal.returns-in-refusal
+returns-in-refusal c = let e = c.read_question-in-refusal.ensures asks_refusal (λ n call p. search rules) in search rules
