@@ -15,8 +15,8 @@ use Rattle.script.specs.Performed.{Answers, wrong_line, BySaid, ByKind, Obeyed}
 -- a line that is not read as a call
 pub not_read : (s : Result Said Wrong) (e : Stop) → Reads said s (Err e) → Answers s (Err e)
 not_read s (stop_wrong w) r = subst (λ (t : Result Said Wrong). Answers t (Err (stop_wrong w))) (sym r) refl
-not_read (Ok s) Memory r = tt
-not_read (Err w) Memory r = tt
+not_read (Ok s) (Memory e) r = tt
+not_read (Err w) (Memory e) r = tt
 
 answered_by : (s : Result Said Wrong) (n : ℕ) (a : Answer) (before after : List ℕ) → Answers s (Ok a) → after ≡ before ++ answer_text a → BySaid s n Answered before after
 answered_by (Ok s) n a before after p e = inl (refl, (answer_text a, p, e))

@@ -39,10 +39,10 @@ Performed (mends m w) text = MendsAs m w text
 abbrev pub Answers : Result Said Wrong → Result Answer Stop → Type 0
 Answers (Ok s) (Ok a) = Performed s (answer_text a)
 Answers (Ok s) (Err (stop_wrong v)) = v ≡ Station
-Answers (Ok s) (Err Memory) = Unit {0}
+Answers (Ok s) (Err (Memory e)) = Unit {0}
 Answers (Err w) (Ok a) = ⊥
 Answers (Err w) (Err (stop_wrong v)) = v ≡ w
-Answers (Err w) (Err Memory) = Unit {0}
+Answers (Err w) (Err (Memory e)) = Unit {0}
 
 -- what is said of line n
 abbrev pub wrong_line : ℕ → Wrong → List ℕ

@@ -6,7 +6,7 @@ ghost use Rattle.script.specs.Performed.{opened_text, Answers, wrong_line, Obeye
 
 use crate::part_calls::{block_part, header_part};
 use crate::station_calls::on_station;
-use crate::word_calls;
+use crate::word_calls::{accept, check_octets, encode_message, judge_word, mend_word, propose};
 use answers::{Answer, write_answer};
 use calls::{Call, StationCall, read_call};
 use chosen::Mending;
@@ -20,12 +20,11 @@ use writing::put;
 fn write_wrong(out: &mut String, line: usize, wrong: Wrong) -> Result<(), AllocError>
     ensures { OnOk result (string_bytes out.new ≡ string_bytes out.old ++ wrong_line line wrong) }
 {
-    put(out, format_args!("error {line}: {wrong}"))?;
-    Ok(())
+    put(out, format_args!("error {line}: {wrong}"))
 }
 
 // What a line was.
-#[derive(Clone, Copy)]
+#[derive(Clone, Copy, PartialEq, Eq, Debug)]
 pub enum Outcome {
     // Empty, or a comment: nothing was written.
     PassedOver,
@@ -60,38 +59,26 @@ impl Desk {
     fn perform_on_station(&mut self, heap: Global, call: StationCall) -> Result<Answer, Stop>
         ensures { Answers (Ok (station_view call)) result }
     {
-        let Some(mut station) = self.station.take() else {
-            return Err(Stop::Wrong(Wrong::Station));
-        };
-        let answer = on_station(heap, &mut station, call);
-        self.station = Some(station);
-        Ok(answer?)
+        let station = self.station.as_mut().ok_or(Wrong::Station)?;
+        Ok(on_station(heap, station, call)?)
     }
 
     fn perform(&mut self, heap: Global, call: Call) -> Result<Answer, Stop>
         ensures { Answers (Ok (said call)) result }
     {
-        match call {
-            Call::Open(mender) => Ok(self.open(mender)),
-            Call::Header(channels, chips) => Ok(header_part(heap, channels, chips.as_slice())?),
-            Call::Block(mode, number, chips) => Ok(block_part(
-                heap,
-                mode,
-                number,
-                chips.as_slice(),
-            )?),
-            Call::Encode(message, room) => Ok(word_calls::encode_message(
-                heap,
-                message.as_slice(),
-                room,
-            )?),
-            Call::Codeword(word) => Ok(word_calls::judge_word(word.as_slice())),
-            Call::Hcs(octets) => Ok(word_calls::check_octets(heap, octets.as_slice())?),
-            Call::Propose(mender, word) => Ok(word_calls::propose(heap, mender, word.as_slice())?),
-            Call::Accept(word, changes) => Ok(word_calls::accept(word, changes.as_slice())),
-            Call::Mend(mender, word) => Ok(word_calls::mend_word(mender, word)),
-            Call::Station(call) => self.perform_on_station(heap, call),
-        }
+        let answer = match call {
+            Call::Open(mender) => self.open(mender),
+            Call::Header(channels, chips) => header_part(heap, channels, chips.as_slice())?,
+            Call::Block(mode, number, chips) => block_part(heap, mode, number, chips.as_slice())?,
+            Call::Encode(message, room) => encode_message(heap, message.as_slice(), room)?,
+            Call::Codeword(word) => judge_word(word.as_slice()),
+            Call::Hcs(octets) => check_octets(heap, octets.as_slice())?,
+            Call::Propose(mender, word) => propose(heap, mender, word.as_slice())?,
+            Call::Accept(word, changes) => accept(word, changes.as_slice()),
+            Call::Mend(mender, word) => mend_word(mender, word),
+            Call::Station(call) => self.perform_on_station(heap, call)?,
+        };
+        Ok(answer)
     }
 
     fn answer(&mut self, heap: Global, text: &[u8]) -> Result<Answer, Stop>
@@ -119,13 +106,11 @@ impl Desk {
                 write_answer(out, &answer)?;
                 Ok(Outcome::Answered)
             }
-            Err(stop) => match stop {
-                Stop::Wrong(wrong) => {
-                    write_wrong(out, number, wrong)?;
-                    Ok(Outcome::NoCall)
-                }
-                Stop::Memory => Err(AllocError),
-            },
+            Err(Stop::Wrong(wrong)) => {
+                write_wrong(out, number, wrong)?;
+                Ok(Outcome::NoCall)
+            }
+            Err(Stop::Memory(e)) => Err(e),
         }
     }
 }

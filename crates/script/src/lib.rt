@@ -1,6 +1,7 @@
 // A desk that carries out the calls of a script, one line after the other.
 #![tactic(auto)]
 
+mod buffer;
 pub mod desk;
 mod part_calls;
 mod station_calls;

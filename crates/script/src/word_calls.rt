@@ -39,11 +39,8 @@ pub(crate) fn judge_word(word: &[u8]) -> Answer
 pub(crate) fn check_octets(heap: Global, octets: &[u8]) -> Result<Answer, AllocError>
     ensures { IfOk result (λ a. answer_text a ≡ hcs_text octets.now) }
 {
-    let Some(size) = octets.len().checked_mul(8) else {
-        return Err(AllocError);
-    };
-    let mut room = vec![in heap; false; size]?;
-    match header_check(octets, room.as_mut_slice()) {
+    let mut bits = vec![in heap; [false; 8]; octets.len()]?;
+    match header_check(octets, bits.as_mut_slice().as_flattened_mut()) {
         Some(hcs) => Ok(Answer::Hcs(hcs)),
         None => Ok(Answer::Nothing),
     }
@@ -54,7 +51,7 @@ pub(crate) fn propose(heap: Global, mut mender: Mending, word: &[u8]) -> Result<
 {
     let mut out = [Change::BLANK; 16];
     match mender.propose(word, &mut out) {
-        Some(n) => Ok(Answer::Proposed(Vec::from_slice(heap, &out[0..n])?)),
+        Some(n) => Ok(Answer::Proposed(Vec::from_slice(heap, &out[..n])?)),
         None => Ok(Answer::NotProposed),
     }
 }
@@ -72,13 +69,8 @@ pub(crate) fn mend_word(mut mender: Mending, mut word: Vec<u8>) -> Answer
     ensures { MendsAs mender word.items (answer_text result) }
 {
     match mend(&mut mender, word.as_mut_slice()) {
-        Ok(n) => {
-            if n == 0 {
-                Answer::Whole
-            } else {
-                Answer::Mended(word)
-            }
-        }
+        Ok(0) => Answer::Whole,
+        Ok(_) => Answer::Mended(word),
         Err(fault) => Answer::Unmended(fault),
     }
 }

@@ -13,18 +13,18 @@ told : (m n : Mending) (w s v : List ℕ) (r a : Result ℕ WordFault) (text : L
 told m n w s v r a text e p is t =
     (r, v, n, subst (λ (u : List ℕ). Mended mending_rule m u r v n) e p, t ∙ ap (λ (x : Result ℕ WordFault). mend_text x v) (sym is))
 
-pub returns-then-n-eq0 : goal.returns-then-n-eq0
-returns-then-n-eq0 c =
-    told c.args.mender c.mend.new.mender c.args.word.items c.as_mut_slice.result.now c.mend.new.word c.mend.result (Ok c.in-Ok.n) _
-    c.as_mut_slice.ensures.value c.mend.ensures c.in-Ok.is (whole c.in-Ok.n c.mend.new.word c.if-n-eq0.true)
+pub returns-in-Ok-eq0 : goal.returns-in-Ok-eq0
+returns-in-Ok-eq0 c =
+    told c.args.mender c.mend.new.mender c.args.word.items c.as_mut_slice.result.now c.mend.new.word c.mend.result (Ok c.in-Ok-eq0.field-0) _
+    c.as_mut_slice.ensures.value c.mend.ensures c.in-Ok-eq0.is (whole c.in-Ok-eq0.field-0 c.mend.new.word c.in-Ok-eq0.field-0-test)
 
-pub returns-else-n-eq0 : goal.returns-else-n-eq0
-returns-else-n-eq0 c =
+pub returns-in-Ok : goal.returns-in-Ok
+returns-in-Ok c =
     let v : List ℕ = c.mend.new.word in
     let long : length v ≡ c.args.word.len = omega (arith, c.mend.auto.word, c.as_mut_slice.ensures.len) in
-    told c.args.mender c.mend.new.mender c.args.word.items c.as_mut_slice.result.now v c.mend.result (Ok c.in-Ok.n) _
+    told c.args.mender c.mend.new.mender c.args.word.items c.as_mut_slice.result.now v c.mend.result (Ok c.in-Ok.field-0) _
     c.as_mut_slice.ensures.value c.mend.ensures c.in-Ok.is
-    (ap (named_text (codes "mended")) (with_items_is c.args.word v long) ∙ mended c.in-Ok.n v c.if-n-eq0.false)
+    (ap (named_text (codes "mended")) (with_items_is c.args.word v long) ∙ mended c.in-Ok.field-0 v c.in-Ok.field-0-test.1)
 
 pub returns-in-Err : goal.returns-in-Err
 returns-in-Err c =

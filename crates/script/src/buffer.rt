@@ -1,0 +1,29 @@
+// Buffers that calls write to.
+use buffers::Looks;
+use std::alloc::{AllocError, Global};
+
+// A buffer for a call, beside what it held before.
+#[derive(Drop)]
+pub(crate) struct Buffer {
+    pub before: Vec<u8>,
+    pub after: Vec<u8>,
+}
+
+impl Buffer {
+    pub(crate) fn holding(heap: Global, before: Vec<u8>) -> Result<Buffer, AllocError> {
+        let after = Vec::from_slice(heap, before.as_slice())?;
+        Ok(Buffer { before, after })
+    }
+
+    // A buffer of one octet throughout.
+    pub(crate) fn filled(heap: Global, octet: u8, room: usize) -> Result<Buffer, AllocError> {
+        Buffer::holding(heap, vec![in heap; octet; room]?)
+    }
+
+    pub(crate) fn looks(&self) -> Looks<'_> {
+        Looks {
+            before: self.before.as_slice(),
+            after: self.after.as_slice(),
+        }
+    }
+}
