@@ -3,8 +3,9 @@ ghost use Rattle.std.specs.Prelude.{◌≡◌, IfOk};
 ghost use Rattle.answers.specs.Texts.{answer_text};
 ghost use Rattle.script.specs.Words.{encode_text, codeword_text, hcs_text, accept_text, Proposes, MendsAs};
 
+use crate::buffer::Buffer;
 use answers::Answer;
-use buffers::{Looks, after_encode};
+use buffers::after_encode;
 use chosen::Mending;
 use format::header_check;
 use mending::{Mender, mend};
@@ -18,16 +19,14 @@ pub(crate) fn encode_message(
 ) -> Result<Answer, AllocError>
     ensures { IfOk result (λ a. answer_text a ≡ encode_text message.now room) }
 {
-    let mut parity = vec![in heap; 0xeeu8; room]?;
-    let before = Vec::from_slice(heap, parity.as_slice())?;
-    let Err(fault) = encode(message, parity.as_mut_slice()) else {
-        return Ok(Answer::Parity(parity));
-    };
-    let buffers = after_encode(Looks {
-        before: before.as_slice(),
-        after: parity.as_slice(),
-    });
-    Ok(Answer::Refused(fault.refusal(), None, Some(buffers)))
+    let mut parity = Buffer::filled(heap, 0xee, room)?;
+    match encode(message, parity.after.as_mut_slice()) {
+        Ok(()) => Ok(Answer::Parity(parity.after)),
+        Err(fault) => {
+            let buffers = after_encode(parity.looks());
+            Ok(Answer::Refused(fault.refusal(), None, Some(buffers)))
+        }
+    }
 }
 
 pub(crate) fn judge_word(word: &[u8]) -> Answer
@@ -40,10 +39,8 @@ pub(crate) fn check_octets(heap: Global, octets: &[u8]) -> Result<Answer, AllocE
     ensures { IfOk result (λ a. answer_text a ≡ hcs_text octets.now) }
 {
     let mut bits = vec![in heap; [false; 8]; octets.len()]?;
-    match header_check(octets, bits.as_mut_slice().as_flattened_mut()) {
-        Some(hcs) => Ok(Answer::Hcs(hcs)),
-        None => Ok(Answer::Nothing),
-    }
+    let hcs = header_check(octets, bits.as_mut_slice().as_flattened_mut()).unwrap();
+    Ok(Answer::Hcs(hcs))
 }
 
 pub(crate) fn propose(heap: Global, mut mender: Mending, word: &[u8]) -> Result<Answer, AllocError>
