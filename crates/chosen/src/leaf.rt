@@ -6,8 +6,8 @@ use menders::{Full, Single};
 use mending::{Mender, Still};
 use words::Change;
 
-// None of them remembers anything, so a name stands for each.
-#[derive(Clone, Copy)]
+// None of them remembers anything, so a name stands for each. A boxed mender would want memory, and naming one cannot fail.
+#[derive(Clone, Copy, PartialEq, Eq, Debug)]
 pub enum Leaf {
     Still,
     Single,

@@ -75,7 +75,7 @@ fn sides(text: &[u8]) -> Option<(&[u8], &[u8])>
 {
     let between = inside(text)?;
     let place = first_comma(between)?;
-    Some((&between[0..place], &between[place + 1..]))
+    Some((&between[..place], &between[place + 1..]))
 }
 
 impl<M: Named + Drop> Named for Pile<M> {
