@@ -82,15 +82,16 @@ fn read_open(words: Words<'_>) -> Result<Call, Stop>
 }
 
 // A call with a mender and a word for it.
-fn read_mended<F: FnOnce(Mending, Vec<u8>) -> Call>(words: Words<'_>, make: F) -> Result<Call, Stop>
+fn read_with_mender<F: FnOnce(Mending, Vec<u8>) -> Call>(
+    words: Words<'_>,
+    make: F,
+) -> Result<Call, Stop>
     requires { F.IsAlwaysCallable make }
     ensures { (view : _) → ((m : _) (w : _) (call : _) → F.post make m w call → said call ≡ view m (vec_items w))
         → Reads said (mender_said view words.entry.text.now) result }
 {
     words.takes(3, 3)?;
-    let mender = words.mender(1)?;
-    let word = words.octets(2)?;
-    Ok(make(mender, word))
+    Ok(make(words.mender(1)?, words.octets(2)?))
 }
 
 // A call with one word, a list of octets.
@@ -100,8 +101,7 @@ fn read_octets<F: FnOnce(Vec<u8>) -> Call>(words: Words<'_>, make: F) -> Result<
         → Reads said (one_said (octets_at words.entry.text.now 1) view words.entry.text.now) result }
 {
     words.takes(2, 2)?;
-    let octets = words.octets(1)?;
-    Ok(make(octets))
+    Ok(make(words.octets(1)?))
 }
 
 // A question about a number.
@@ -111,8 +111,7 @@ fn read_question<F: FnOnce(u8) -> StationCall>(words: Words<'_>, ask: F) -> Resu
         → Reads said (one_said (number_at 255 words.entry.text.now 1) view words.entry.text.now) result }
 {
     words.takes(2, 2)?;
-    let number = words.small(1)?;
-    Ok(Call::Station(ask(number)))
+    Ok(Call::Station(ask(words.small(1)?)))
 }
 
 // The call that a text says, or what is wrong with it.
@@ -130,8 +129,8 @@ pub fn read_call(heap: Global, text: &[u8]) -> Result<Call, Stop>
         "accept" => read_accept(words),
         "codeword" => read_octets(words, Call::Codeword),
         "hcs" => read_octets(words, Call::Hcs),
-        "propose" => read_mended(words, Call::Propose),
-        "mend" => read_mended(words, Call::Mend),
+        "propose" => read_with_mender(words, Call::Propose),
+        "mend" => read_with_mender(words, Call::Mend),
         "build" => read_build(words),
         "read" => read_read(words),
         "open" => read_open(words),

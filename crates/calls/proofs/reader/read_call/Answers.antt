@@ -13,10 +13,10 @@ pub returns-in-hcs : goal.returns-in-hcs
 returns-in-hcs c = let e = c.read_octets-in-hcs.ensures checks (λ w call p. search rules) in search rules
 
 pub returns-in-propose : goal.returns-in-propose
-returns-in-propose c = let e = c.read_mended.ensures proposes (λ m w call p. search rules) in search rules
+returns-in-propose c = let e = c.read_with_mender.ensures proposes (λ m w call p. search rules) in search rules
 
 pub returns-in-mend : goal.returns-in-mend
-returns-in-mend c = let e = c.read_mended-in-mend.ensures mends (λ m w call p. search rules) in search rules
+returns-in-mend c = let e = c.read_with_mender-in-mend.ensures mends (λ m w call p. search rules) in search rules
 
 pub returns-in-mode : goal.returns-in-mode
 returns-in-mode c = let e = c.read_question.ensures asks_mode (λ n call p. search rules) in search rules
