@@ -1,10 +1,10 @@
 // The chips of built frames, held to those of a second implementation.
 use crate::count::Count;
+use crate::framing::LENGTHS;
+use crate::octets::fill;
 use mending::{Mender, Still};
 use station::Station;
 use std::alloc::{AllocError, Global};
-
-const LENGTHS: [usize; 8] = [0, 1, 223, 224, 225, 448, 2047, 2048];
 
 // The digests of the second implementation's chips: mode after mode, and in each mode length after length.
 const EXPECTED: [u32; 56] = [
@@ -18,20 +18,9 @@ const EXPECTED: [u32; 56] = [
 ];
 
 fn digest(chips: &[u8]) -> u32 {
-    let mut h = 0u32;
-    for c in chips.iter() {
-        h = h.wrapping_mul(31).wrapping_add(*c as u32).wrapping_add(1);
-    }
-    h
-}
-
-// Fills a row with octets that rise by a step.
-fn fill(octets: &mut [u8], first: u8, step: u8) {
-    let mut next = first;
-    for o in octets.iter_mut() {
-        *o = next;
-        next = next.wrapping_add(step);
-    }
+    chips.iter().fold(0u32, |h, c| {
+        h.wrapping_mul(31).wrapping_add(*c as u32).wrapping_add(1)
+    })
 }
 
 // Builds frame k, from 0, and answers its chips' digest; none where the build is turned down.
@@ -56,13 +45,12 @@ fn built_digest<M: Mender>(
     ) else {
         return Ok(None);
     };
-    let all = chips.as_slice();
-    let end = built.chips.min(all.len());
-    Ok(Some(digest(&all[0..end])))
+    chips.truncate(built.chips);
+    Ok(Some(digest(chips.as_slice())))
 }
 
 pub(crate) fn chips(heap: Global) -> Result<Count, AllocError> {
-    let mut count = Count::new();
+    let mut count = Count::default();
     let mut station = Station::open(Still {});
     for (k, expected) in EXPECTED.iter().enumerate() {
         let found = built_digest(heap, &mut station, k, LENGTHS[k % 8])?;

@@ -6,6 +6,7 @@ mod coder;
 mod count;
 mod framing;
 mod mend;
+mod octets;
 
 use chips::chips;
 use coder::coder;
@@ -14,7 +15,7 @@ use framing::{edges, round_trips};
 use mend::{causes, menders_table};
 
 fn show(rt: &impl Print, kind: &str, count: Count) -> anyhow::Result<()> {
-    println!(rt; "{kind}: {} right, {} wrong", count.right, count.wrong)?;
+    println!(rt; "{kind}: {count}")?;
     Ok(())
 }
 

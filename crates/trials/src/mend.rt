@@ -1,121 +1,103 @@
 // Words with spoiled octets, and each mender.
-use crate::coder::fill;
 use crate::count::Count;
+use crate::octets::fill;
 use menders::{Full, Single};
 use mending::{Mender, Still, Then, mend};
 use words::{Change, WordFault, accept, encode};
 
-// Fills a row with a message and its parity.
-fn code(word: &mut [u8]) {
-    if word.len() < 17 {
-        return;
+// A message with its parity behind it.
+fn codeword<const N: usize>() -> [u8; N] {
+    let mut word = [0u8; N];
+    if let Some((message, parity)) = word.split_last_chunk_mut::<16>() {
+        fill(message, 3, 7);
+        let _ = encode(message, parity);
     }
-    fill(word);
-    let split = word.len() - 16;
-    let mut parity = [0u8; 16];
-    let _ = encode(&word[0..split], &mut parity);
-    let tail = &mut word[split..];
-    tail.copy_from_slice(&parity);
+    word
 }
 
 // Spoils so many octets, from a place on.
 fn spoil(word: &mut [u8], spoiled: usize, from: usize) {
-    let size = word.len();
-    for i in 0..spoiled {
-        if from < size && i < size - from {
-            word[from + i] ^= (17 + i % 64) as u8;
-        }
+    for (o, by) in word.iter_mut().skip(from).take(spoiled).zip(17..) {
+        *o ^= by;
     }
 }
 
-// Whether a mender of this reach makes of the spoiled word what it should: the codeword within its reach, else a refusal and the word as it was.
-fn mended<M: Mender>(
-    mender: &mut M,
+// Whether a mender makes of the spoiled word what it should: the codeword within its reach, else a refusal and the word as it was.
+fn mended<M: Mender + Drop, const N: usize>(
+    mut mender: M,
+    whole: &[u8; N],
     spoiled: usize,
     from: usize,
-    room: &mut [u8],
-    whole: &[u8],
 ) -> bool {
-    let reach = mender.reach();
-    spoil(room, spoiled, from);
-    let answer = mend(mender, room);
-    let apart = polynomials::differences(room, whole);
-    if spoiled <= reach {
+    let mut word = *whole;
+    spoil(&mut word, spoiled, from);
+    let answer = mend(&mut mender, &mut word);
+    let apart = polynomials::differences(&word, whole);
+    if spoiled <= mender.reach() {
         answer == Ok(spoiled) && apart == 0
     } else {
         answer.is_err() && apart == spoiled
     }
 }
 
-// All menders at one word's length, number of spoiled octets and first place.
-fn each(count: &mut Count, whole: &[u8], room: &mut [u8], spoiled: usize, from: usize) {
-    if room.len() != whole.len() {
-        return;
-    }
-    room.copy_from_slice(whole);
-    count.note(mended(&mut Still {}, spoiled, from, room, whole));
-    room.copy_from_slice(whole);
-    count.note(mended(&mut Single, spoiled, from, room, whole));
-    room.copy_from_slice(whole);
-    count.note(mended(&mut Full, spoiled, from, room, whole));
-    room.copy_from_slice(whole);
-    count.note(mended(
-        &mut Then {
-            first: Single,
-            second: Full,
-        },
-        spoiled,
-        from,
-        room,
-        whole,
-    ));
+// All menders at one word, number of spoiled octets and first place.
+fn each<const N: usize>(count: &mut Count, whole: &[u8; N], spoiled: usize, from: usize) {
+    count.note(mended(Still {}, whole, spoiled, from));
+    count.note(mended(Single {}, whole, spoiled, from));
+    count.note(mended(Full {}, whole, spoiled, from));
+    let both = Then {
+        first: Single {},
+        second: Full {},
+    };
+    count.note(mended(both, whole, spoiled, from));
 }
 
 // Spoiled octets from the first place, around the middle, and up to the last.
-fn places(count: &mut Count, whole: &[u8], room: &mut [u8], spoiled: usize) {
-    let spare = whole.len().saturating_sub(spoiled);
-    each(count, whole, room, spoiled, 0);
-    each(count, whole, room, spoiled, spare / 2);
-    each(count, whole, room, spoiled, spare);
+fn places<const N: usize>(count: &mut Count, whole: &[u8; N], spoiled: usize) {
+    let spare = N.saturating_sub(spoiled);
+    for from in [0, spare / 2, spare] {
+        each(count, whole, spoiled, from);
+    }
 }
 
 pub(crate) fn menders_table() -> Count {
-    let mut count = Count::new();
-    let mut short = [0u8; 17];
-    let mut long = [0u8; 240];
-    code(&mut short);
-    code(&mut long);
+    let mut count = Count::default();
+    let short = codeword::<17>();
+    let long = codeword::<240>();
     for spoiled in [0usize, 1, 2, 7, 8, 9] {
-        places(&mut count, &short, &mut [0u8; 17], spoiled);
-        places(&mut count, &long, &mut [0u8; 240], spoiled);
+        places(&mut count, &short, spoiled);
+        places(&mut count, &long, spoiled);
     }
     count
 }
 
-// Hostile proposals, one for each cause.
+const GOOD: Change = Change { place: 3, octet: 5 };
+
+const WRONG: Change = Change { place: 4, octet: 5 };
+
+const ZERO: Change = Change { place: 4, octet: 0 };
+
+const OUTSIDE: Change = Change {
+    place: 17,
+    octet: 1,
+};
+
+// A good proposal, and hostile ones: one for each cause.
 pub(crate) fn causes() -> Count {
-    let mut count = Count::new();
-    let mut word = [0u8; 17];
-    code(&mut word);
-    let good = Change { place: 3, octet: 5 };
+    let mut count = Count::default();
+    let mut word = codeword::<17>();
     word[3] ^= 5;
-    count.note(accept(&word, &[good]).is_ok());
-    count.note(accept(&word, &[]) == Err(WordFault::Nothing));
-    count.note(accept(&word, &[good; 9]) == Err(WordFault::TooMany));
-    count.note(
-        accept(
-            &word,
-            &[
-                good,
-                Change {
-                    place: 17,
-                    octet: 1,
-                },
-            ],
-        ) == Err(WordFault::Outside),
-    );
-    count.note(accept(&word, &[good, good]) == Err(WordFault::Twice));
-    count.note(accept(&word, &[good, Change { place: 4, octet: 0 }]) == Err(WordFault::Zero));
-    count.note(accept(&word, &[Change { place: 4, octet: 5 }]) == Err(WordFault::NoCodeword));
+    count.note(accept(&word, &[GOOD]).is_ok());
+    let hostile: [(&[Change], WordFault); 6] = [
+        (&[], WordFault::Nothing),
+        (&[GOOD; 9], WordFault::TooMany),
+        (&[GOOD, OUTSIDE], WordFault::Outside),
+        (&[GOOD, GOOD], WordFault::Twice),
+        (&[GOOD, ZERO], WordFault::Zero),
+        (&[WRONG], WordFault::NoCodeword),
+    ];
+    for (changes, cause) in hostile {
+        count.note(accept(&word, changes) == Err(cause));
+    }
     count
 }
