@@ -1,30 +1,18 @@
 // How many answers agreed.
+use std::fmt;
 
-#[derive(Clone, Copy)]
+#[derive(Clone, Copy, Default)]
 pub struct Count {
-    pub agreed: u32,
-    pub differed: u32,
+    agreed: u32,
+    differed: u32,
 }
 
 impl Count {
-    pub(crate) fn new() -> Count {
-        Count {
-            agreed: 0,
-            differed: 0,
-        }
-    }
-
-    pub(crate) fn note(self, agrees: bool) -> Count {
+    pub(crate) fn note(&mut self, agrees: bool) {
         if agrees {
-            Count {
-                agreed: self.agreed.saturating_add(1),
-                differed: self.differed,
-            }
+            self.agreed = self.agreed.saturating_add(1);
         } else {
-            Count {
-                agreed: self.agreed,
-                differed: self.differed.saturating_add(1),
-            }
+            self.differed = self.differed.saturating_add(1);
         }
     }
 
@@ -33,5 +21,15 @@ impl Count {
             agreed: self.agreed.saturating_add(other.agreed),
             differed: self.differed.saturating_add(other.differed),
         }
+    }
+
+    pub(crate) fn all_agreed(&self) -> bool {
+        self.differed == 0
+    }
+}
+
+impl fmt::Display for Count {
+    fn fmt<W: fmt::Write>(&self, f: &mut fmt::Formatter<W>) -> fmt::Result {
+        write!(f, "{} agreed, {} did not", self.agreed, self.differed)
     }
 }

@@ -6,35 +6,24 @@ mod difference;
 mod kinds;
 mod trial;
 
-use anyhow::anyhow;
-use count::Count;
+use anyhow::ensure;
 use difference::Difference;
 use std::fs;
 use std::rt::Files;
 use trial::Trial;
 
-fn show_count(rt: &impl Print, name: &str, count: Count) -> anyhow::Result<()> {
-    println!(rt;
-        "{name}: {} agreed, {} did not",
-        count.agreed, count.differed
-    )?;
-    Ok(())
-}
-
 fn show_differences(rt: &impl Print, differences: &[Difference]) -> anyhow::Result<()> {
     for d in differences {
-        println!(rt; "line {}", d.line)?;
-        println!(rt; "  expected {}", d.expected.as_str())?;
-        println!(rt; "  found    {}", d.found.as_str())?;
+        println!(rt; "{d}")?;
     }
     Ok(())
 }
 
 fn show(rt: &impl Print, trial: &Trial) -> anyhow::Result<()> {
-    for (name, count) in trial.names().iter().zip(trial.counts()) {
-        show_count(rt, name.as_str(), *count)?;
+    for (name, count) in trial.kinds().counts() {
+        println!(rt; "{}: {count}", name.as_str())?;
     }
-    show_count(rt, "total", trial.total())?;
+    println!(rt; "total: {}", trial.kinds().total())?;
     show_differences(rt, trial.differences())
 }
 
@@ -43,9 +32,10 @@ fn run(rt: &(impl Print + Files + AllocGlobal)) -> anyhow::Result<()> {
     let mut trial = Trial::new(rt.alloc());
     trial.run(rt.alloc(), text.as_slice())?;
     show(rt, &trial)?;
-    if trial.total().differed > 0 {
-        return Err(anyhow!("some answers do not agree"));
-    }
+    ensure!(
+        trial.kinds().total().all_agreed(),
+        "some answers do not agree"
+    );
     Ok(())
 }
 

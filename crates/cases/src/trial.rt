@@ -1,10 +1,8 @@
 // A trial of stored calls: a script in which a line `> ANSWER` follows each call, and lines `# kind: NAME` name the kind of the calls after them.
-use crate::count::Count;
 use crate::difference::Difference;
 use crate::kinds::Kinds;
 use captures::Lines;
 use script::{Desk, Outcome};
-use spelling::same;
 use std::alloc::{AllocError, Global};
 
 // So many differences are kept.
@@ -15,20 +13,11 @@ pub struct Trial {
     desk: Desk,
     kinds: Kinds,
     differences: Vec<Difference>,
-    // How many lines of the file were read, and how many of them are the script's.
+    // The line of the file that was read last, from 1, and how many lines are the script's.
     line: usize,
     script_line: usize,
     // The last call's answer, until it is compared.
     answer: Option<String>,
-}
-
-// What stands behind a mark at the front of a line.
-fn behind<'a>(line: &'a [u8], mark: &[u8]) -> Option<&'a [u8]> {
-    let size = mark.len();
-    if line.len() < size || !same(&line[0..size], mark) {
-        return None;
-    }
-    Some(&line[size..])
 }
 
 impl Trial {
@@ -45,7 +34,7 @@ impl Trial {
 
     // Holds what was found to what was expected.
     fn compare(&mut self, heap: Global, expected: &[u8], found: &[u8]) -> Result<(), AllocError> {
-        let agrees = same(expected, found);
+        let agrees = expected == found;
         self.kinds.note(heap, agrees)?;
         if !agrees && self.differences.len() < KEPT {
             self.differences
@@ -68,7 +57,7 @@ impl Trial {
             self.compare(heap, b"no answer stands behind this call", found.as_bytes())?;
         }
         self.script_line = self.script_line.saturating_add(1);
-        if let Some(name) = behind(line, b"# kind: ") {
+        if let Some(name) = line.strip_prefix(b"# kind: ") {
             self.kinds.enter(heap, name)?;
         }
         let mut answer = String::new(heap);
@@ -80,8 +69,7 @@ impl Trial {
     }
 
     fn step(&mut self, heap: Global, line: &[u8]) -> Result<(), AllocError> {
-        self.line = self.line.saturating_add(1);
-        match behind(line, b"> ") {
+        match line.strip_prefix(b"> ") {
             Some(expected) => self.expect(heap, expected),
             None => self.call(heap, line),
         }
@@ -89,7 +77,8 @@ impl Trial {
 
     // Runs the whole text.
     pub(crate) fn run(&mut self, heap: Global, text: &[u8]) -> Result<(), AllocError> {
-        for line in Lines::new(text) {
+        for (number, line) in (1..).zip(Lines::new(text)) {
+            self.line = number;
             self.step(heap, line)?;
         }
         if let Some(found) = self.answer.take() {
@@ -98,16 +87,8 @@ impl Trial {
         Ok(())
     }
 
-    pub(crate) fn names(&self) -> &[String] {
-        self.kinds.names()
-    }
-
-    pub(crate) fn counts(&self) -> &[Count] {
-        self.kinds.counts()
-    }
-
-    pub(crate) fn total(&self) -> Count {
-        self.kinds.total()
+    pub(crate) fn kinds(&self) -> &Kinds {
+        &self.kinds
     }
 
     pub(crate) fn differences(&self) -> &[Difference] {
