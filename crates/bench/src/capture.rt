@@ -1,6 +1,6 @@
 // Reads a capture: every window of a text file, one after the other.
+use crate::failed::Failed;
 use crate::outcome::{show_delivery, show_line_fault, show_refusal};
-use crate::status::Status;
 use crate::summary::show_summary;
 use captures::{Lines, SeedFault, Written, read_window, seed_fault};
 use faults::{Delivery, Fault};
@@ -26,8 +26,8 @@ impl Listener {
     fn new() -> Listener {
         Listener {
             station: Station::open(Then {
-                first: Single,
-                second: Full,
+                first: Single {},
+                second: Full {},
             }),
             windows: 0,
             repeated: 0,
@@ -89,13 +89,11 @@ fn show_lines(
     listener: &mut Listener,
     text: &[u8],
 ) -> anyhow::Result<u64> {
-    let mut number = 0u64;
     let mut bad = 0u64;
-    for line in Lines::new(text) {
-        number = number.saturating_add(1);
-        if is_passed_over(line) {
-            continue;
-        }
+    for (number, line) in (1u64..)
+        .zip(Lines::new(text))
+        .filter(|(_, line)| !is_passed_over(line))
+    {
         match read_window(line) {
             Ok(written) => show_window(rt, listener, written)?,
             Err(fault) => {
@@ -120,22 +118,21 @@ pub(crate) fn show_capture(
     Ok((listener, bad))
 }
 
-pub(crate) fn read_capture(rt: &HostRuntime, path: &str) -> anyhow::Result<Status> {
+pub(crate) fn read_capture(rt: &HostRuntime, path: &str) -> anyhow::Result<()> {
     let text = match fs::read(rt, path) {
         Ok(text) => text,
         Err(e) => {
             eprintln!(rt; "{path} is not read: {e}")?;
-            return Ok(Status::Failure);
+            return Err(Failed.into());
         }
     };
     let (listener, bad) = show_capture(rt, text.as_slice())?;
     if listener.windows == 0 {
         eprintln!(rt; "{path} holds no window")?;
-        return Ok(Status::Failure);
+        return Err(Failed.into());
     }
-    if bad == 0 {
-        Ok(Status::Success)
-    } else {
-        Ok(Status::Failure)
+    if bad > 0 {
+        return Err(Failed.into());
     }
+    Ok(())
 }

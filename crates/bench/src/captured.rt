@@ -2,6 +2,7 @@
 use crate::capture::show_capture;
 use crate::frame::MAC;
 use crate::samples::window_line;
+use crate::spoil::turn;
 use menders::Full;
 use station::Station;
 use std::alloc::{AllocError, Global};
@@ -16,18 +17,9 @@ fn built_line(heap: Global, station: &mut Station<Full>) -> Result<Vec<u8>, Allo
     window_line(heap, 1, chips.as_slice())
 }
 
-// Turns some digits over, where there are so many: 0 to 1 and 1 to 0.
-fn turn(line: &mut [u8], from: usize, count: usize) {
-    for (i, digit) in line.iter_mut().enumerate() {
-        if i >= from && i - from < count {
-            *digit ^= 1;
-        }
-    }
-}
-
 // Seeds 0, 0 again with three octets spoiled, and 3; half of SFD2 turned over; a line with no chips, and one with a bad chip.
 fn sample(heap: Global) -> Result<Vec<u8>, AllocError> {
-    let mut station = Station::open(Full);
+    let mut station = Station::open(Full {});
     let mut text = built_line(heap, &mut station)?;
     let mut again = text.clone()?;
     turn(again.as_mut_slice(), 2 + 6656, 20);
@@ -46,6 +38,6 @@ fn sample(heap: Global) -> Result<Vec<u8>, AllocError> {
 pub(crate) fn show_captured(rt: &(impl Print + Eprint + AllocGlobal)) -> anyhow::Result<()> {
     println!(rt; "A capture of four windows")?;
     let text = sample(rt.alloc())?;
-    let _ = show_capture(rt, text.as_slice())?;
+    show_capture(rt, text.as_slice())?;
     Ok(())
 }

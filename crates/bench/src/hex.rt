@@ -7,8 +7,7 @@ pub struct Hex<'a>(pub &'a [u8]);
 impl fmt::Display for Hex<'_> {
     fn fmt<W: fmt::Write>(&self, f: &mut fmt::Formatter<W>) -> fmt::Result {
         for octet in self.0 {
-            let o = *octet;
-            write!(f, "{o:02x}")?;
+            write!(f, "{octet:02x}")?;
         }
         Ok(())
     }

@@ -5,6 +5,7 @@ mod capture;
 mod captured;
 mod chain;
 mod command;
+mod failed;
 mod frame;
 mod hex;
 mod layer;
@@ -15,7 +16,6 @@ mod script_run;
 mod session;
 mod speed;
 mod spoil;
-mod status;
 mod stopwatch;
 mod summary;
 mod usage;
@@ -25,50 +25,41 @@ use capture::read_capture;
 use captured::show_captured;
 use chain::show_chain;
 use command::{Command, read_command};
+use failed::Failed;
 use samples::write_frames;
 use script_run::run_script;
 use speed::show_speed;
-use status::Status;
 use std::env;
 use usage::USAGE;
 
-fn perform(rt: &HostRuntime, command: Command<'_>) -> anyhow::Result<Status> {
+fn perform(rt: &HostRuntime, command: Command<'_>) -> anyhow::Result<()> {
     match command {
         Command::Chain => {
             show_chain(rt)?;
             eprint!(rt; "{USAGE}")?;
-            Ok(Status::Success)
+            Ok(())
         }
         Command::Help => {
             print!(rt; "{USAGE}")?;
-            Ok(Status::Success)
+            Ok(())
         }
         Command::Capture(file) => read_capture(rt, file),
         Command::Frames(asked) => write_frames(rt, asked),
-        Command::Sample => {
-            show_captured(rt)?;
-            Ok(Status::Success)
-        }
+        Command::Sample => show_captured(rt),
         Command::Script(file) => run_script(rt, file),
-        Command::Speed => {
-            show_speed(rt)?;
-            Ok(Status::Success)
-        }
+        Command::Speed => show_speed(rt),
     }
 }
 
-fn run(rt: &HostRuntime) -> anyhow::Result<Status> {
-    let mut args = Vec::new(rt.alloc());
-    for arg in env::args(rt)?.skip(1) {
-        args.push(arg)?;
-    }
+fn run(rt: &HostRuntime) -> anyhow::Result<()> {
+    let args = env::args(rt)?.skip(1).collect::<Vec<String>>(rt.alloc())?;
     let Some(command) = read_command(args.as_slice()) else {
         eprint!(rt; "{USAGE}")?;
-        return Ok(Status::Failure);
+        return Err(Failed.into());
     };
     perform(rt, command)
 }
 
 fn main(rt: HostRuntime) -> anyhow::Result<()> {
-    run(&rt)?.result()
+    run(&rt)
 }

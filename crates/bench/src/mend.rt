@@ -3,13 +3,20 @@ use crate::spoil::spoil_some;
 use crate::word::page_word;
 use menders::{Full, Single};
 use mending::{Mender, Still, Then};
+use std::fmt;
 use words::{Change, accept};
 
-fn show_changes(rt: &impl Print, changes: &[Change]) -> anyhow::Result<()> {
-    for c in changes {
-        print!(rt; " {}:{:02x}", c.place, c.octet)?;
+// Changes, each as its place and its octet.
+#[derive(Clone, Copy)]
+struct Changes<'a>(&'a [Change]);
+
+impl fmt::Display for Changes<'_> {
+    fn fmt<W: fmt::Write>(&self, f: &mut fmt::Formatter<W>) -> fmt::Result {
+        for c in self.0 {
+            write!(f, " {}:{:02x}", c.place, c.octet)?;
+        }
+        Ok(())
     }
-    Ok(())
 }
 
 // The proposal of one mender, and whether it is accepted.
@@ -20,13 +27,13 @@ fn show_proposal<M: Mender>(
     word: &[u8],
 ) -> anyhow::Result<()> {
     let mut out = [Change::BLANK; 16];
-    print!(rt; "    {name:<18}")?;
     let Some(n) = mender.propose(word, &mut out) else {
-        println!(rt; " nothing")?;
+        println!(rt; "    {name:<18} nothing")?;
         return Ok(());
     };
-    show_changes(rt, &out[0..n])?;
-    match accept(word, &out[0..n]) {
+    let changes = &out[..n];
+    print!(rt; "    {name:<18}{}", Changes(changes))?;
+    match accept(word, changes) {
         Ok(()) => println!(rt; "  accepted")?,
         Err(e) => println!(rt; "  not accepted, cause {}", e.cause())?,
     }
@@ -40,17 +47,13 @@ pub(crate) fn show_mending(rt: &impl Print) -> anyhow::Result<()> {
         spoil_some(&mut word, count);
         println!(rt; "  {count} octets spoiled")?;
         show_proposal(rt, "still", &mut Still {}, &word)?;
-        show_proposal(rt, "single", &mut Single, &word)?;
-        show_proposal(rt, "full", &mut Full, &word)?;
-        show_proposal(
-            rt,
-            "single, then full",
-            &mut Then {
-                first: Single,
-                second: Full,
-            },
-            &word,
-        )?;
+        show_proposal(rt, "single", &mut Single {}, &word)?;
+        show_proposal(rt, "full", &mut Full {}, &word)?;
+        let mut both = Then {
+            first: Single {},
+            second: Full {},
+        };
+        show_proposal(rt, "single, then full", &mut both, &word)?;
     }
     Ok(())
 }

@@ -2,6 +2,21 @@
 use crate::layer::layer_name;
 use captures::{LineFault, SeedFault};
 use faults::{Delivery, Fault};
+use std::fmt;
+
+// A fault's place, and its cause where it has one.
+#[derive(Clone, Copy)]
+pub struct Spot(pub Fault);
+
+impl fmt::Display for Spot {
+    fn fmt<W: fmt::Write>(&self, f: &mut fmt::Formatter<W>) -> fmt::Result {
+        write!(f, "place {}", self.0.refusal().place)?;
+        match self.0.cause() {
+            Some(cause) => write!(f, ", cause {}", cause.cause()),
+            None => Ok(()),
+        }
+    }
+}
 
 fn seed_text(fault: Option<SeedFault>) -> &'static str {
     match fault {
@@ -31,16 +46,12 @@ pub(crate) fn show_delivery(
 
 pub(crate) fn show_refusal(rt: &impl Print, window: u64, fault: Fault) -> anyhow::Result<()> {
     let refusal = fault.refusal();
-    print!(rt;
-        "window {window}: refused {} at the {}, place {}",
+    println!(rt;
+        "window {window}: refused {} at the {}, {}",
         refusal.number,
         layer_name(refusal.layer),
-        refusal.place
+        Spot(fault)
     )?;
-    if let Some(cause) = fault.cause() {
-        print!(rt; ", cause {}", cause.cause())?;
-    }
-    println!(rt; "")?;
     Ok(())
 }
 

@@ -1,9 +1,8 @@
 // Writes a capture of built frames.
 use crate::command::Frames;
+use crate::failed::Failed;
 use crate::frame::MAC;
-use crate::status::Status;
-use anyhow::anyhow;
-use faults::Built;
+use anyhow::bail;
 use menders::Full;
 use station::Station;
 use std::alloc::{AllocError, Global};
@@ -11,10 +10,11 @@ use std::fs;
 
 // As much of the file's octets as frame k, from 0, carries: 2,048 to a frame, over and over.
 fn share(octets: &[u8], k: u32) -> &[u8] {
-    let shares = octets.len().div_ceil(2048).max(1);
-    let start = (2048 * (k as usize % shares)).min(octets.len());
-    let end = (start + 2048).min(octets.len());
-    &octets[start..end]
+    let shares = octets.chunks(2048).len().max(1);
+    octets
+        .chunks(2048)
+        .nth(k as usize % shares)
+        .unwrap_or_default()
 }
 
 // The body of frame k, from 0.
@@ -34,32 +34,41 @@ pub(crate) fn window_line(
     channels: usize,
     chips: &[u8],
 ) -> Result<Vec<u8>, AllocError> {
-    let mut line = Vec::new(heap);
-    line.push(b'0' + (channels % 10) as u8)?;
-    line.push(b' ')?;
-    for c in chips {
-        line.push(b'0' + *c % 2)?;
-    }
+    let mut line = vec![in heap; b'0' + (channels % 10) as u8, b' ']?;
+    line.extend(chips.iter().map(|c| b'0' + *c % 2))?;
     line.push(b'\n')?;
     Ok(line)
 }
 
+// Builds frame k, from 0, and shows it as a line.
 fn show_frame(
     rt: &(impl Print + AllocGlobal),
+    station: &mut Station<Full>,
     asked: Frames<'_>,
+    file: Option<&[u8]>,
     k: u32,
-    length: usize,
-    built: Built,
-    chips: &[u8],
 ) -> anyhow::Result<()> {
+    let mode = asked.mode;
+    let mut body = body_of(rt.alloc(), file, k)?;
+    let mut chips = vec![in rt.alloc(); 0u8; 50176]?;
+    let Ok(built) = station.build(
+        mode.number(),
+        false,
+        MAC,
+        body.as_mut_slice(),
+        chips.as_mut_slice(),
+    ) else {
+        bail!("a frame is not built");
+    };
     println!(rt;
-        "# frame {}: mode {} seed {} length {length}",
+        "# frame {}: mode {} seed {} length {}",
         k as u64 + 1,
-        asked.mode.number(),
-        built.seed
+        mode.number(),
+        built.seed,
+        body.len()
     )?;
-    let end = built.chips.min(chips.len());
-    let line = window_line(rt.alloc(), asked.mode.channels(), &chips[0..end])?;
+    chips.truncate(built.chips);
+    let line = window_line(rt.alloc(), mode.channels(), chips.as_slice())?;
     rt.write_all(line.as_slice())?;
     Ok(())
 }
@@ -69,38 +78,22 @@ fn show_frames(
     asked: Frames<'_>,
     file: Option<&[u8]>,
 ) -> anyhow::Result<()> {
-    let mut station = Station::open(Full);
-    let mut chips = vec![in rt.alloc(); 0u8; 50176]?;
+    let mut station = Station::open(Full {});
     for k in 0..asked.count {
-        let mut body = body_of(rt.alloc(), file, k)?;
-        let built = station.build(
-            asked.mode.number(),
-            false,
-            MAC,
-            body.as_mut_slice(),
-            chips.as_mut_slice(),
-        );
-        let Ok(built) = built else {
-            return Err(anyhow!("a frame is not built"));
-        };
-        show_frame(rt, asked, k, body.len(), built, chips.as_slice())?;
+        show_frame(rt, &mut station, asked, file, k)?;
     }
     Ok(())
 }
 
-pub(crate) fn write_frames(rt: &HostRuntime, asked: Frames<'_>) -> anyhow::Result<Status> {
+pub(crate) fn write_frames(rt: &HostRuntime, asked: Frames<'_>) -> anyhow::Result<()> {
     let Some(path) = asked.file else {
-        show_frames(rt, asked, None)?;
-        return Ok(Status::Success);
+        return show_frames(rt, asked, None);
     };
     match fs::read(rt, path) {
-        Ok(octets) => {
-            show_frames(rt, asked, Some(octets.as_slice()))?;
-            Ok(Status::Success)
-        }
+        Ok(octets) => show_frames(rt, asked, Some(octets.as_slice())),
         Err(e) => {
             eprintln!(rt; "{path} is not read: {e}")?;
-            Ok(Status::Failure)
+            Err(Failed.into())
         }
     }
 }

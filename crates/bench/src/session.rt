@@ -2,7 +2,8 @@
 use crate::frame::MAC;
 use crate::hex::Hex;
 use crate::layer::layer_name;
-use crate::spoil::spoil;
+use crate::outcome::Spot;
+use crate::spoil::{spoil, turn};
 use crate::word::PAGE;
 use faults::{Delivery, Fault};
 use menders::{Full, Single};
@@ -11,16 +12,12 @@ use station::Station;
 
 fn show_refusal(rt: &impl Print, fault: Fault) -> anyhow::Result<()> {
     let refusal = fault.refusal();
-    print!(rt;
-        "  refused   number {}, layer {}, place {}",
+    println!(rt;
+        "  refused   number {}, layer {}, {}",
         refusal.number,
         layer_name(refusal.layer),
-        refusal.place
+        Spot(fault)
     )?;
-    if let Some(cause) = fault.cause() {
-        print!(rt; ", cause {}", cause.cause())?;
-    }
-    println!(rt; "")?;
     Ok(())
 }
 
@@ -33,8 +30,8 @@ fn show_delivery(rt: &impl Print, d: Delivery, mac: &[u8], body: &[u8]) -> anyho
         d.mended
     )?;
     println!(rt; "  MAC       {}", Hex(mac))?;
-    if d.length <= body.len() {
-        println!(rt; "  body      {}", Hex(&body[0..d.length]))?;
+    if let Some(body) = body.get(..d.length) {
+        println!(rt; "  body      {}", Hex(body))?;
     }
     Ok(())
 }
@@ -81,20 +78,18 @@ fn show_tally<M: Mender>(rt: &impl Print, station: &Station<M>) -> anyhow::Resul
 
 // Spoils a chip of SFD2, nine chips of a header bit, and a chip in each of six octets of the body's word.
 fn damage(chips: &mut [u8]) {
-    spoil(chips, 4096 + 200, 1);
-    for k in 0..9usize {
-        spoil(chips, 5120 + 16 * 70 + k, 1);
-    }
-    for k in 0..6usize {
-        spoil(chips, 9216 + 40 * k, 1);
+    turn(chips, 4096 + 200, 1);
+    turn(chips, 5120 + 16 * 70, 9);
+    for chip in chips.iter_mut().skip(9216).step_by(40).take(6) {
+        *chip ^= 1;
     }
 }
 
 pub(crate) fn show_session(rt: &(impl Print + AllocGlobal)) -> anyhow::Result<()> {
     let mut chips = vec![in rt.alloc(); 0u8; 50176]?;
     let mut station = Station::open(Then {
-        first: Single,
-        second: Full,
+        first: Single {},
+        second: Full {},
     });
     println!(rt; "A station over single, then full")?;
     show_build(rt, &mut station, chips.as_mut_slice())?;

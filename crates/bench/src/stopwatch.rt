@@ -3,11 +3,6 @@ use std::num::nearest_u64_to_f64;
 use std::rt::Clock;
 use std::time::Instant;
 
-// Work that can be done over and over. A round answers whether it went as it should.
-pub trait Work {
-    fn round(&mut self) -> bool;
-}
-
 // How long one measurement goes on at least.
 const SECONDS: f64 = 0.3;
 
@@ -15,23 +10,28 @@ const SECONDS: f64 = 0.3;
 const BATCH: u32 = 64;
 
 // Does some rounds, and answers whether all of them went as they should.
-fn batch<W: Work>(work: &mut W) -> bool {
-    let mut right = true;
+fn batch<F: FnMut() -> bool>(round: &mut F) -> bool
+    requires { (state : F) → F.pre state }
+{
     for _ in 0..BATCH {
-        right = work.round() && right;
+        if !round() {
+            return false;
+        }
     }
-    right
+    true
 }
 
-// The nanoseconds that a round takes for each of its octets; none where a round went wrong.
-pub(crate) fn nanoseconds<W: Work>(
+// The nanoseconds that a round of work takes for each of its octets. A round answers whether it went as it should; none where one did not.
+pub(crate) fn nanoseconds<F: FnMut() -> bool>(
     clock: &impl Clock,
-    work: &mut W,
     octets: u16,
-) -> anyhow::Result<Option<f64>> {
+    mut round: F,
+) -> anyhow::Result<Option<f64>>
+    requires { (state : F) → F.pre state }
+{
     let start = Instant::now(clock)?;
     for batches in 1..u64::MAX {
-        if !batch(work) {
+        if !batch(&mut round) {
             return Ok(None);
         }
         let seconds = start.elapsed(clock)?.as_secs_f64();

@@ -3,35 +3,27 @@ use crate::capture::Listener;
 
 // How many windows were delivered, in all modes.
 fn delivered(listener: &Listener) -> u64 {
-    let mut all = 0u64;
-    for mode in 1..=7u8 {
-        if let Some(row) = listener.station.delivered(mode) {
-            all = all.saturating_add(row.windows as u64);
-        }
-    }
-    all
+    (1..=7u8)
+        .filter_map(|mode| listener.station.delivered(mode))
+        .fold(0u64, |all, row| all.saturating_add(row.windows as u64))
 }
 
 // How many windows were refused, by all refusals.
 fn refused(listener: &Listener) -> u64 {
-    let mut all = 0u64;
-    for number in 1..=19u8 {
-        if let Some(count) = listener.station.refused(number) {
-            all = all.saturating_add(count as u64);
-        }
-    }
-    all
+    (1..=19u8)
+        .filter_map(|number| listener.station.refused(number))
+        .fold(0u64, |all, count| all.saturating_add(count as u64))
 }
 
 fn show_modes(rt: &impl Print, listener: &Listener) -> anyhow::Result<()> {
     for mode in 1..=7u8 {
-        if let Some(row) = listener.station.delivered(mode) {
-            if row.windows > 0 {
-                println!(rt;
-                    "mode {mode}: {} delivered, {} octets mended",
-                    row.windows, row.octets
-                )?;
-            }
+        if let Some(row) = listener.station.delivered(mode)
+            && row.windows > 0
+        {
+            println!(rt;
+                "mode {mode}: {} delivered, {} octets mended",
+                row.windows, row.octets
+            )?;
         }
     }
     Ok(())
@@ -39,10 +31,10 @@ fn show_modes(rt: &impl Print, listener: &Listener) -> anyhow::Result<()> {
 
 fn show_refusals(rt: &impl Print, listener: &Listener) -> anyhow::Result<()> {
     for number in 1..=19u8 {
-        if let Some(count) = listener.station.refused(number) {
-            if count > 0 {
-                println!(rt; "refusal {number}: {count}")?;
-            }
+        if let Some(count) = listener.station.refused(number)
+            && count > 0
+        {
+            println!(rt; "refusal {number}: {count}")?;
         }
     }
     Ok(())

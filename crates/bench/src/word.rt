@@ -12,10 +12,9 @@ fn answer(yes: bool) -> &'static str {
 // The page with its parity behind it.
 pub(crate) fn page_word() -> [u8; 52] {
     let mut word = [0u8; 52];
-    let mut parity = [0u8; 16];
-    let _ = encode(PAGE, &mut parity);
-    word[0..36].copy_from_slice(PAGE);
-    word[36..52].copy_from_slice(&parity);
+    let (message, parity) = word.split_at_mut(36);
+    message.copy_from_slice(PAGE);
+    let _ = encode(message, parity);
     word
 }
 
@@ -23,7 +22,7 @@ pub(crate) fn show_word(rt: &impl Print) -> anyhow::Result<()> {
     let mut word = page_word();
     println!(rt; "A word")?;
     println!(rt; "  message   {}", Hex(PAGE))?;
-    println!(rt; "  parity    {}", Hex(&word[36..52]))?;
+    println!(rt; "  parity    {}", Hex(&word[36..]))?;
     println!(rt; "  codeword  {}", answer(is_codeword(&word)))?;
     spoil(&mut word, 9, 0x21);
     println!(rt; "  octet 9 spoiled by 21")?;
