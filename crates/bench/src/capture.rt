@@ -1,5 +1,6 @@
 // Reads a capture: every window of a text file, one after the other.
 use crate::failed::Failed;
+use crate::files::read_file;
 use crate::outcome::{show_delivery, show_line_fault, show_refusal};
 use crate::summary::show_summary;
 use captures::{Lines, SeedFault, Written, read_window, seed_fault};
@@ -9,7 +10,6 @@ use menders::{Full, Single};
 use mending::Then;
 use station::Station;
 use std::alloc::{AllocError, Global};
-use std::fs;
 
 // A station at work on a capture, and what the station does not count itself.
 #[derive(Drop)]
@@ -119,20 +119,11 @@ pub(crate) fn show_capture(
 }
 
 pub(crate) fn read_capture(rt: &HostRuntime, path: &str) -> anyhow::Result<()> {
-    let text = match fs::read(rt, path) {
-        Ok(text) => text,
-        Err(e) => {
-            eprintln!(rt; "{path} is not read: {e}")?;
-            return Err(Failed.into());
-        }
-    };
+    let text = read_file(rt, path)?;
     let (listener, bad) = show_capture(rt, text.as_slice())?;
     if listener.windows == 0 {
         eprintln!(rt; "{path} holds no window")?;
         return Err(Failed.into());
     }
-    if bad > 0 {
-        return Err(Failed.into());
-    }
-    Ok(())
+    if bad == 0 { Ok(()) } else { Err(Failed.into()) }
 }

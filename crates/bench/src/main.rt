@@ -6,6 +6,7 @@ mod captured;
 mod chain;
 mod command;
 mod failed;
+mod files;
 mod frame;
 mod hex;
 mod layer;

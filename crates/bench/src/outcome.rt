@@ -36,7 +36,7 @@ pub(crate) fn show_delivery(
         "window {window}: mode {} seed {} aggregation {} length {} mended {}{}",
         d.mode.number(),
         d.seed,
-        d.aggregation as u8,
+        u8::from(d.aggregation),
         d.length,
         d.mended,
         seed_text(seed)

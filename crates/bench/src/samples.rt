@@ -1,12 +1,11 @@
 // Writes a capture of built frames.
 use crate::command::Frames;
-use crate::failed::Failed;
+use crate::files::read_file;
 use crate::frame::MAC;
 use anyhow::bail;
 use menders::Full;
 use station::Station;
 use std::alloc::{AllocError, Global};
-use std::fs;
 
 // As much of the file's octets as frame k, from 0, carries: 2,048 to a frame, over and over.
 fn share(octets: &[u8], k: u32) -> &[u8] {
@@ -22,8 +21,7 @@ fn body_of(heap: Global, file: Option<&[u8]>, k: u32) -> Result<Vec<u8>, AllocEr
     match file {
         Some(octets) => share(octets, k).to_vec(heap),
         None => {
-            let text = format!(in heap; "This is frame {} of a capture.", k as u64 + 1)?;
-            text.as_bytes().to_vec(heap)
+            Ok(format!(in heap; "This is frame {} of a capture.", u64::from(k) + 1)?.into_bytes())
         }
     }
 }
@@ -34,7 +32,7 @@ pub(crate) fn window_line(
     channels: usize,
     chips: &[u8],
 ) -> Result<Vec<u8>, AllocError> {
-    let mut line = vec![in heap; b'0' + (channels % 10) as u8, b' ']?;
+    let mut line = format!(in heap; "{channels} ")?.into_bytes();
     line.extend(chips.iter().map(|c| b'0' + *c % 2))?;
     line.push(b'\n')?;
     Ok(line)
@@ -62,7 +60,7 @@ fn show_frame(
     };
     println!(rt;
         "# frame {}: mode {} seed {} length {}",
-        k as u64 + 1,
+        u64::from(k) + 1,
         mode.number(),
         built.seed,
         body.len()
@@ -86,14 +84,8 @@ fn show_frames(
 }
 
 pub(crate) fn write_frames(rt: &HostRuntime, asked: Frames<'_>) -> anyhow::Result<()> {
-    let Some(path) = asked.file else {
-        return show_frames(rt, asked, None);
-    };
-    match fs::read(rt, path) {
-        Ok(octets) => show_frames(rt, asked, Some(octets.as_slice())),
-        Err(e) => {
-            eprintln!(rt; "{path} is not read: {e}")?;
-            Err(Failed.into())
-        }
+    match asked.file {
+        Some(path) => show_frames(rt, asked, Some(read_file(rt, path)?.as_slice())),
+        None => show_frames(rt, asked, None),
     }
 }

@@ -1,8 +1,8 @@
 // Runs a script: a file or standard input is read line by line, as octets, and a desk answers each line as it comes.
 use crate::failed::Failed;
+use crate::files::open_file;
 use captures::split_line;
 use script::{Desk, Outcome};
-use std::fs::File;
 use std::io::{BufRead, BufReader, Read};
 
 // Answers one line, and says whether it may stand in a script.
@@ -40,14 +40,8 @@ fn answer_lines<R: Read + Drop>(rt: &(impl Print + AllocGlobal), input: R) -> an
 
 // Runs the script of a file, or of standard input where none is named. It fails where a line is no call.
 pub(crate) fn run_script(rt: &HostRuntime, file: Option<&str>) -> anyhow::Result<()> {
-    let Some(path) = file else {
-        return answer_lines(rt, rt.stdin());
-    };
-    match File::open(rt, path) {
-        Ok(input) => answer_lines(rt, input),
-        Err(e) => {
-            eprintln!(rt; "{path} is not read: {e}")?;
-            Err(Failed.into())
-        }
+    match file {
+        Some(path) => answer_lines(rt, open_file(rt, path)?),
+        None => answer_lines(rt, rt.stdin()),
     }
 }

@@ -5,14 +5,14 @@ use crate::capture::Listener;
 fn delivered(listener: &Listener) -> u64 {
     (1..=7u8)
         .filter_map(|mode| listener.station.delivered(mode))
-        .fold(0u64, |all, row| all.saturating_add(row.windows as u64))
+        .fold(0u64, |all, row| all.saturating_add(u64::from(row.windows)))
 }
 
 // How many windows were refused, by all refusals.
 fn refused(listener: &Listener) -> u64 {
     (1..=19u8)
         .filter_map(|number| listener.station.refused(number))
-        .fold(0u64, |all, count| all.saturating_add(count as u64))
+        .fold(0u64, |all, count| all.saturating_add(u64::from(count)))
 }
 
 fn show_modes(rt: &impl Print, listener: &Listener) -> anyhow::Result<()> {

@@ -19,7 +19,9 @@ const EXPECTED: [u32; 56] = [
 
 fn digest(chips: &[u8]) -> u32 {
     chips.iter().fold(0u32, |h, c| {
-        h.wrapping_mul(31).wrapping_add(*c as u32).wrapping_add(1)
+        h.wrapping_mul(31)
+            .wrapping_add(u32::from(*c))
+            .wrapping_add(1)
     })
 }
 
