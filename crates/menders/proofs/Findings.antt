@@ -6,11 +6,12 @@ use Rattle.std.proofs.lemmas.Bool.{eq-eqb, ne_eqb, eqb-true, eqb-false, both_way
 use Rattle.std.specs.List.{list_any}
 use Rattle.elements.specs.Octets.{octets, product, power}
 use Rattle.coding.specs.Sums.{slide, eval_low}
-use Rattle.coding.specs.Decoder.{roots}
+use Rattle.coding.specs.Decoder.{roots, correction}
 use Rattle.coding.specs.Kernel.{dot}
 use Rattle.words.specs.declared.change.Change.{Change}
 use Rattle.menders.specs.Locators.{entries}
 use Rattle.menders.specs.Repairs.{repairs}
+use Rattle.menders.proofs.Repairing.{repairs_few}
 
 -- the syndromes from k on, as an equation at the coefficients of a polynomial
 pub slide_dot : (s P : List ℕ) (k : ℕ) → k + length P ≤ length s → dot octets (drop k s) P ≡ slide octets P (entries s) k
@@ -63,42 +64,46 @@ found_where v ys k n e below =
       | false ↦ λ h. sym (ne_eqb (eval_low octets v (power k)) 0 (λ z. both_ways any h (back ∙ vanishing_found v k n below z)))
     ]) refl
 
--- the octet e that f says of a place tells whether there is a change more
-module _ (f : ℕ → ℕ) (n k e : ℕ) (some : 0 < k) (value : e ≡ f (power (k - 1))) where
-  repair_is : repairs f n k ≡ cond (eqb e 0) (repairs f n (k - 1)) (record { place = n - 1 - (k - 1); octet = e } ∷ repairs f n (k - 1))
+-- the octet e that is to be added at a place tells whether there is a change more
+module _ (s : ℕ → ℕ) (v ys : List ℕ) (n k e : ℕ) (all : ys ≡ roots octets power v n) (few : length ys ≤ 8) (some : 0 < k) (value : e ≡ correction octets s v ys (power (k - 1))) where
+  abbrev left_of : ℕ → List Change
+  left_of k = repairs (correction octets s v ys) n k
+
+  abbrev change : Change
+  change = record { place = n - 1 - (k - 1); octet = e }
+
+  repair_is : left_of k ≡ cond (eqb e 0) (left_of (k - 1)) (change ∷ left_of (k - 1))
   repair_is =
       let back : k ≡ suc (k - 1) = omega arith in
-      let R = repairs f n (k - 1) in
-      ap (repairs f n) back ∙ ap (λ o. cond (eqb o 0) R (record { place = n - 1 - (k - 1); octet = o } ∷ R)) (sym value)
+      ap left_of back ∙ ap (λ o. cond (eqb o 0) (left_of (k - 1)) (record { place = n - 1 - (k - 1); octet = o } ∷ left_of (k - 1))) (sym value)
 
-  repair_found : (e ≡ 0 → ⊥) → repairs f n k ≡ record { place = n - 1 - (k - 1); octet = e } ∷ repairs f n (k - 1)
-  repair_found apart = repair_is ∙ ap (λ t. cond t (repairs f n (k - 1)) (record { place = n - 1 - (k - 1); octet = e } ∷ repairs f n (k - 1))) (ne_eqb e 0 apart)
-
-  repair_none : e ≡ 0 → repairs f n k ≡ repairs f n (k - 1)
-  repair_none none = repair_is ∙ ap (λ t. cond t (repairs f n (k - 1)) (record { place = n - 1 - (k - 1); octet = e } ∷ repairs f n (k - 1))) (eq-eqb e 0 none)
+  fits : length (left_of n) ≤ 16
+  fits = omega (arith, repairs_few s v ys n n, ap length all)
 
   -- the first `count` changes are written, over what the buffer held
   module _ (out old : List Change) (count : ℕ)
-      (so_far : (length out ≡ 16) × (count ≤ 16) × (drop count out ≡ drop count old) × (take count out ++ repairs f n k ≡ repairs f n n)) where
-    pub passed_over : e ≡ 0 → (length out ≡ 16) × (count ≤ 16) × (drop count out ≡ drop count old) × (take count out ++ repairs f n (k - 1) ≡ repairs f n n)
-    passed_over none = (so_far.0, so_far.1, so_far.2, ap (λ l. take count out ++ l) (sym (repair_none none)) ∙ so_far.3)
+      (so_far : (length out ≡ 16) × (count ≤ 16) × (drop count out ≡ drop count old) × (take count out ++ left_of k ≡ left_of n)) where
+    pub passed_over : e ≡ 0 → (length out ≡ 16) × (count ≤ 16) × (drop count out ≡ drop count old) × (take count out ++ left_of (k - 1) ≡ left_of n)
+    passed_over none =
+        let skip = repair_is ∙ ap (λ t. cond t (left_of (k - 1)) (change ∷ left_of (k - 1))) (eq-eqb e 0 none) in
+        (so_far.0, so_far.1, so_far.2, ap (λ l. take count out ++ l) (sym skip) ∙ so_far.3)
 
     module _ (apart : e ≡ 0 → ⊥) where
-      left : take count out ++ (record { place = n - 1 - (k - 1); octet = e } ∷ repairs f n (k - 1)) ≡ repairs f n n
-      left = ap (λ l. take count out ++ l) (sym (repair_found apart)) ∙ so_far.3
+      left : take count out ++ (change ∷ left_of (k - 1)) ≡ left_of n
+      left =
+          let found = repair_is ∙ ap (λ t. cond t (left_of (k - 1)) (change ∷ left_of (k - 1))) (ne_eqb e 0 apart) in
+          ap (λ l. take count out ++ l) (sym found) ∙ so_far.3
 
-      pub room : length (repairs f n n) ≤ 16 → count < 16
-      room few =
-          let R = repairs f n (k - 1) in
-          omega (arith, ap length left, length-append (take count out) (record { place = n - 1 - (k - 1); octet = e } ∷ R), length-take-le count out (omega (arith, so_far.0, so_far.1)))
+      pub room : count < 16
+      room =
+          omega (arith, fits, ap length left, length-append (take count out) (change ∷ left_of (k - 1)), length-take-le count out (omega (arith, so_far.0, so_far.1)))
 
-      pub written : length (repairs f n n) ≤ 16 → let new = set out count (record { place = n - 1 - (k - 1); octet = e }) in
-          (length new ≡ 16) × (count + 1 ≤ 16) × (drop (count + 1) new ≡ drop (count + 1) old) × (take (count + 1) new ++ repairs f n (k - 1) ≡ repairs f n n)
-      written few =
-          let c : Change = record { place = n - 1 - (k - 1); octet = e } in
-          let below : count < 16 = room few in (
-            length-set out count c ∙ so_far.0,
+      pub written : let new = set out count change in
+          (length new ≡ 16) × (count + 1 ≤ 16) × (drop (count + 1) new ≡ drop (count + 1) old) × (take (count + 1) new ++ left_of (k - 1) ≡ left_of n)
+      written =
+          let below : count < 16 = room in (
+            length-set out count change ∙ so_far.0,
             omega arith,
-            drop-set-lt (count + 1) out count c (omega arith) ∙ sym (drop-drop 1 count out) ∙ ap (drop 1) so_far.2 ∙ drop-drop 1 count old,
-            ap (λ l. l ++ repairs f n (k - 1)) (take_more_set out count c (omega (arith, so_far.0))) ∙ append_assoc (take count out) (c ∷ []) (repairs f n (k - 1)) ∙ left,
+            drop-set-lt (count + 1) out count change (omega arith) ∙ sym (drop-drop 1 count out) ∙ ap (drop 1) so_far.2 ∙ drop-drop 1 count old,
+            ap (λ l. l ++ left_of (k - 1)) (take_more_set out count change (omega (arith, so_far.0))) ∙ append_assoc (take count out) (change ∷ []) (left_of (k - 1)) ∙ left,
           )

@@ -1,5 +1,5 @@
 // The equations of the syndromes, solved by elimination over rows that start as the unit vectors.
-// The rows that are still in use stand first, and each has nine coordinates, of which t + 1 are in use.
+// Each row has nine coordinates, of which t + 1 are in use.
 ghost use Rattle.std.specs.Prelude.{◌≡◌, ◌+◌, ◌≤◌, take, not, ◌==◌, position};
 ghost use Rattle.elements.specs.Octets.{octets};
 ghost use Rattle.coding.specs.Kernel.{dot as dot_of, add_mul, clear_rows, eliminate_rows, kernel_rows, unit_rows};
