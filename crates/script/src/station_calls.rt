@@ -34,9 +34,8 @@ fn build(heap: Global, station: &mut Station<Mending>, call: Build) -> Result<An
     let buffers = after_build(written, body.looks(), chips.looks());
     match answer {
         Ok(built) => {
-            let Buffer { mut after, .. } = chips;
-            after.truncate(built.chips);
-            Ok(Answer::Built(built, buffers, after))
+            chips.after.truncate(built.chips);
+            Ok(Answer::Built(built, buffers, chips.after))
         }
         Err(fault) => Ok(refused(fault, buffers)),
     }

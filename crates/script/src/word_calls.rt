@@ -38,6 +38,7 @@ pub(crate) fn judge_word(word: &[u8]) -> Answer
 pub(crate) fn check_octets(heap: Global, octets: &[u8]) -> Result<Answer, AllocError>
     ensures { IfOk result (λ a. answer_text a ≡ hcs_text octets.now) }
 {
+    // Eight for each octet, as many as the check wants.
     let mut bits = vec![in heap; [false; 8]; octets.len()]?;
     let hcs = header_check(octets, bits.as_mut_slice().as_flattened_mut()).unwrap();
     Ok(Answer::Hcs(hcs))
