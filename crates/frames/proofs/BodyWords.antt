@@ -1,7 +1,7 @@
 -- The body's words, one behind the other.
-use Rattle.std.proofs.Common.{◌≡◌, ℕ, zero, suc, ◌+◌, ◌-◌, ◌*◌, ◌<◌, ◌≤◌, min, List, ◌++◌, length, take, drop, replicate, sym, refl, ap, ◌∙◌, ⊎_elim, add-one, arith}
+use Rattle.std.proofs.Common.{◌≡◌, ℕ, zero, suc, ◌+◌, ◌*◌, ◌<◌, ◌≤◌, min, List, ◌++◌, length, take, drop, sym, refl, ap, ◌∙◌, ⊎_elim, add-one, arith}
 use borrow.Rule.Slice.PartMut.{put_mid}
-use Rattle.std.proofs.lemmas.List.{length-append, append_assoc, append-nil, take_at, take_all, take_min, drop_at, drop_all, drop-drop, length-drop, length-take-le, drop-replicate}
+use Rattle.std.proofs.lemmas.List.{length-append, append_assoc, append-nil, take_at, take_all, take_min, drop_at, drop_all, drop-drop, length-drop, length-take-le}
 use Rattle.std.proofs.lemmas.Bool.{cases_lt}
 use Rattle.coding.specs.Codewords.{parity}
 use Rattle.coding.proofs.ParityFacts.{length_parity}
@@ -68,7 +68,3 @@ pub words_all : (octets body : List ℕ) (k : ℕ) → length body ≤ 224 * k �
 words_all octets body k low high long e =
     let count : k ≡ word_count (length body) = omega arith in
     sym (take_all (length (coded k body)) octets (omega (arith, length_coded k body low))) ∙ e ∙ ap (λ n. coded n body) count
-
--- zeros behind the words
-pub zeros_left : (row zeros : List ℕ) (n m : ℕ) → row ≡ replicate m 0 → zeros ≡ drop n row → zeros ≡ replicate (m - n) 0
-zeros_left row zeros n m e f = f ∙ ap (drop n) e ∙ drop-replicate n m 0
