@@ -1,7 +1,7 @@
 // Reads a capture: every window of a text file, one after the other.
 use crate::failed::Failed;
 use crate::files::read_file;
-use crate::outcome::{show_delivery, show_line_fault, show_refusal};
+use crate::outcome::{show_delivery, show_refusal};
 use crate::summary::show_summary;
 use captures::{Lines, SeedFault, Written, read_window, seed_fault};
 use faults::{Delivery, Fault};
@@ -98,7 +98,7 @@ fn show_lines(
             Ok(written) => show_window(rt, listener, written)?,
             Err(fault) => {
                 bad = bad.saturating_add(1);
-                show_line_fault(rt, number, fault)?;
+                println!(rt; "line {number}: {fault}")?;
             }
         }
     }

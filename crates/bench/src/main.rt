@@ -9,7 +9,6 @@ mod failed;
 mod files;
 mod frame;
 mod hex;
-mod layer;
 mod mend;
 mod outcome;
 mod samples;

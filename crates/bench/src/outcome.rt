@@ -1,6 +1,5 @@
 // What became of one window, as a line of text.
-use crate::layer::layer_name;
-use captures::{LineFault, SeedFault};
+use captures::SeedFault;
 use faults::{Delivery, Fault};
 use std::fmt;
 
@@ -18,11 +17,16 @@ impl fmt::Display for Spot {
     }
 }
 
-fn seed_text(fault: Option<SeedFault>) -> &'static str {
-    match fault {
-        None => "",
-        Some(SeedFault::Repeated) => ", seed repeated",
-        Some(SeedFault::Skipped) => ", seed skipped",
+// What is wrong with a frame's seed, behind a comma; nothing where nothing is.
+#[derive(Clone, Copy)]
+struct Remark(Option<SeedFault>);
+
+impl fmt::Display for Remark {
+    fn fmt<W: fmt::Write>(&self, f: &mut fmt::Formatter<W>) -> fmt::Result {
+        match self.0 {
+            Some(fault) => write!(f, ", {fault}"),
+            None => Ok(()),
+        }
     }
 }
 
@@ -39,7 +43,7 @@ pub(crate) fn show_delivery(
         u8::from(d.aggregation),
         d.length,
         d.mended,
-        seed_text(seed)
+        Remark(seed)
     )?;
     Ok(())
 }
@@ -49,20 +53,8 @@ pub(crate) fn show_refusal(rt: &impl Print, window: u64, fault: Fault) -> anyhow
     println!(rt;
         "window {window}: refused {} at the {}, {}",
         refusal.number,
-        layer_name(refusal.layer),
+        refusal.layer,
         Spot(fault)
     )?;
-    Ok(())
-}
-
-pub(crate) fn show_line_fault(rt: &impl Print, line: u64, fault: LineFault) -> anyhow::Result<()> {
-    match fault {
-        LineFault::NoCount => println!(rt; "line {line}: no channel count")?,
-        LineFault::NoChips => println!(rt; "line {line}: no chips")?,
-        LineFault::TooLong => println!(rt; "line {line}: longer than any window")?,
-        LineFault::BadChip(place) => println!(rt;
-            "line {line}: a chip that is neither 0 nor 1, at {place}"
-        )?,
-    }
     Ok(())
 }

@@ -1,7 +1,6 @@
 // A station that builds two frames, reads the second back with damage, and answers questions.
 use crate::frame::MAC;
 use crate::hex::Hex;
-use crate::layer::layer_name;
 use crate::outcome::Spot;
 use crate::spoil::{spoil, turn};
 use crate::word::PAGE;
@@ -15,7 +14,7 @@ fn show_refusal(rt: &impl Print, fault: Fault) -> anyhow::Result<()> {
     println!(rt;
         "  refused   number {}, layer {}, {}",
         refusal.number,
-        layer_name(refusal.layer),
+        refusal.layer,
         Spot(fault)
     )?;
     Ok(())
