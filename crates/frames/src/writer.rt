@@ -55,9 +55,6 @@ pub fn write_frame(
 {
     let m = admit(mode, mac.len(), body.len())?;
     let n = frame_length(m, body.len() as u16);
-    if chips.len() < n {
-        return Err(DoorFault::Room);
-    }
     let phy = Phy {
         seed: seed % 16,
         aggregation,
@@ -66,6 +63,9 @@ pub fn write_frame(
     };
     let word = word_of(phy, mac);
     let guard = Scrambled::new(body, phy.seed);
+    if chips.len() < n {
+        return Err(DoorFault::Room);
+    }
     write_parts(&mut chips[..n], m, &word, guard.view(), guard.behind());
     Ok(n)
 }

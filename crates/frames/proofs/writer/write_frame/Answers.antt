@@ -27,7 +27,12 @@ returns-clause-chips c =
     (c.view.ensures ∙ c.new-guard.ensures.scrambled) (c.behind.ensures ∙ c.new-guard.ensures.behind) c.write_parts.ensures
     ∙ ap (λ a. chips_by a c.args.seed c.args.aggregation mac body chips) let_in
 
+pub returns-then-chips-n-clause-body : goal.returns-then-chips-n-clause-body
+returns-then-chips-n-clause-body c =
+    let back = restored _ c.new-guard.result.seed c.args.body.now c.new-guard.result.body.now _ c.new-guard.ensures.seed c.new-guard.ensures.scrambled c.drop-guard.ensures in
+    search rules
+
 pub returns-clause-body : goal.returns-clause-body
 returns-clause-body c =
-    let back = restored _ c.new-guard.result.seed c.args.body.now c.new-guard.result.body.now _ c.new-guard.ensures.seed c.new-guard.ensures.scrambled c.drop-guard.ensures in
+    let back = restored _ c.new-guard.result.seed c.args.body.now c.new-guard.result.body.now _ c.new-guard.ensures.seed c.new-guard.ensures.scrambled c.drop-guard-2.ensures in
     search rules
