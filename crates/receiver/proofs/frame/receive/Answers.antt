@@ -1,4 +1,4 @@
-use Rattle.std.proofs.Common.{sym, ◌∙◌}
+use Rattle.std.proofs.Common.{sym, ◌∙◌, arith}
 use Rattle.std.proofs.lemmas.List.{length-take-le}
 use Rattle.std.proofs.lemmas.Result.{err_from_is_err_and}
 use Rattle.account.specs.Answers.{Passed}
@@ -32,7 +32,7 @@ pub slice_bounds-fill-end-then-is_err-2 : goal.slice_bounds-fill-end-then-is_err
 slice_bounds-fill-end-then-is_err-2 g c =
     let p = seen g (goal.at.slice_bounds-fill-end-then-is_err-2 g c).In_ok-admit in
     let later = c.read_frame-answer.new.body in
-    sym (length-take-le 2048 later (roomy_on c.args.body.now c.fill.new.self later p.roomy c.fill.auto.self c.read_frame-answer.auto.body))
+    sym (length-take-le _ later (omega (arith, roomy_on c.args.body.now c.fill.new.self later p.roomy c.fill.auto.self c.read_frame-answer.auto.body)))
 
 pub returns-then-is_err : goal.returns-then-is_err
 returns-then-is_err g c =
