@@ -34,6 +34,11 @@ abbrev pub payload_refusal : PayloadFault → Refusal
 payload_refusal Ends = refusal 18 layer.Payload 0
 payload_refusal (payload_word place e) = refusal 19 layer.Payload place
 
+-- the same fault, of the body word at a place
+abbrev pub at_place : ℕ → PayloadFault → PayloadFault
+at_place place Ends = Ends
+at_place place (payload_word none e) = payload_word place e
+
 -- the doors' refusals are numbered 1 to 8
 abbrev pub fault_refusal : Fault → Refusal
 fault_refusal (Door e) = door_refusal e

@@ -3,6 +3,7 @@ ghost use Rattle.std.specs.Prelude.{◌≡◌};
 ghost use Rattle.faults.specs.declared.fault.HeaderFault.TheVariants.{Word as header_word};
 ghost use Rattle.faults.specs.declared.fault.PayloadFault.TheVariants.{Word as payload_word};
 ghost use Rattle.faults.specs.declared.fault.Fault.TheVariants.{Door, Preamble, Header, Payload};
+ghost use Rattle.faults.specs.Faults.{at_place};
 
 use format::DoorFault;
 use words::WordFault;
@@ -62,6 +63,18 @@ impl From<WordFault> for PayloadFault {
 
     fn from(e: WordFault) -> PayloadFault {
         PayloadFault::Word(0, e)
+    }
+}
+
+impl PayloadFault {
+    // The same fault, of the body word at a place, from 1.
+    pub fn at(self, place: usize) -> PayloadFault
+        ensures { result ≡ at_place place self }
+    {
+        match self {
+            PayloadFault::Ends => PayloadFault::Ends,
+            PayloadFault::Word(_, cause) => PayloadFault::Word(place, cause),
+        }
     }
 }
 

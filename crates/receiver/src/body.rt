@@ -39,7 +39,7 @@ impl Payload<'_> {
     {
         let mut room = [0u8; 240];
         let size = body_word(self.window, self.mode, self.length, k, &mut room);
-        let at_place = |cause| PayloadFault::Word(k as usize + 1, cause);
+        let at_place = |cause| PayloadFault::from(cause).at(k as usize + 1);
         let mended = mend(mender, &mut room[..size]).map_err(at_place)?;
         let at = 224 * k as usize;
         body[at..at + size - 16].copy_from_slice(&room[..size - 16]);

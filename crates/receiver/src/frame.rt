@@ -22,8 +22,10 @@ fn read_frame<M: Mender>(
     ensures { FrameAs M.Mender.rule mender.old n window.entry.chips.now body.old mac.old result body.new mac.new mender.new }
 {
     let mode = read_mode(window, n)?;
-    // The door has seen to the channels and to the window's length.
-    let part = window.header(n).unwrap();
+    let Ok(part) = window.header(n) else {
+        // The door has seen to the channels and to the window's length.
+        unreachable()
+    };
     let head = read_header(mender, part)?;
     let phy = head.phy;
     let payload = Payload {

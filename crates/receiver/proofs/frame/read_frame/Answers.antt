@@ -20,15 +20,15 @@ returns-in_err-head g c =
     rw (p.1, p.2)
     (by_head g.M.Mender.rule c.args.mender.now c.args.n c.args.window.chips.now c.args.body.now c.args.mac.now c.requires.blank
     c.in_ok-mode.mode c.in_ok-mode.ensures c.read_header.new.mender c.in_err-head.field-0.0
-    (head_at g.M.Mender.rule c.args.mender.now c.read_header.new.mender c.args.n c.args.window.chips.now c.unwrap-part.result.chips.now
-    (Err c.in_err-head.field-0.0) (rw c.unwrap-part.ensures at c.header.ensures).1 c.in_err-head.ensures))
+    (head_at g.M.Mender.rule c.args.mender.now c.read_header.new.mender c.args.n c.args.window.chips.now c.in-Ok.part.chips.now
+    (Err c.in_err-head.field-0.0) c.in-Ok.ensures.1 c.in_err-head.ensures))
 
 -- a header that passes, read from its part of the window
 told : (g : given.Over) (c : In_ok-head g)
     → HeaderAs g.M.Mender.rule c.args.mender.now (header_read c.args.n c.args.window.chips.now) (Ok c.in_ok-head.head) c.read_header.new.mender
 told g c =
-    head_at g.M.Mender.rule c.args.mender.now c.read_header.new.mender c.args.n c.args.window.chips.now c.unwrap-part.result.chips.now
-    (Ok c.in_ok-head.head) (rw c.unwrap-part.ensures at c.header.ensures).1 c.in_ok-head.ensures
+    head_at g.M.Mender.rule c.args.mender.now c.read_header.new.mender c.args.n c.args.window.chips.now c.in-Ok.part.chips.now
+    (Ok c.in_ok-head.head) c.in-Ok.ensures.1 c.in_ok-head.ensures
 
 pub returns-in_err-mended : goal.returns-in_err-mended
 returns-in_err-mended g c =
