@@ -1,9 +1,9 @@
 -- The PHY header's bits, as shifts and masks.
-use Rattle.std.proofs.Common.{◌≡◌, ℕ, ◌+◌, ◌*◌, ◌/◌, ◌%◌, ◌^◌, ◌<◌, Bool, true, false, eqb, List, [], ◌∷◌, length, get_or, refl, arith}
+use Rattle.std.proofs.Common.{◌≡◌, ℕ, ◌+◌, ◌*◌, ◌/◌, ◌%◌, ◌^◌, ◌<◌, Bool, true, false, eqb, List, [], ◌∷◌, length, refl, arith}
 use mir.Val.{bool_byte}
 use Rattle.std.specs.Int.{w32, to_le_bytes, from_le_bytes}
 use lib.Bits.{bit_or, bit_and, or_shifted_r}
-use Rattle.std.proofs.lemmas.Nat.{and_mask, or_lt}
+use Rattle.std.proofs.lemmas.Nat.{and_mask}
 use Rattle.format.specs.declared.phy.Phy.{Phy}
 use Rattle.format.specs.Bits.{bit_of}
 use Rattle.format.specs.Header.{packed, unpacked, low_first, joined}

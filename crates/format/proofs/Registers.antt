@@ -1,5 +1,5 @@
 -- The register's steps, as shifts and masks.
-use Rattle.std.proofs.Common.{◌≡◌, ℕ, zero, suc, ◌+◌, ◌-◌, ◌*◌, ◌/◌, ◌%◌, ◌^◌, ◌<◌, ◌≤◌, sym, refl, ap, ◌∙◌, ap₂, mul_assoc, mul-add, mul_comm, pow-suc, suc-add, arith}
+use Rattle.std.proofs.Common.{◌≡◌, ℕ, zero, suc, ◌+◌, ◌*◌, ◌/◌, ◌%◌, ◌^◌, ◌<◌, refl, ap, ◌∙◌, ap₂, mul_assoc, mul-add, mul_comm, pow-suc, suc-add, arith}
 use lib.Bits.{bit_and, bit_or, bit_xor, xor_add_and, or_shifted_r}
 use Rattle.std.proofs.lemmas.Nat.{and_mask, or_shifted, shl_whole, pow-add, mul-le}
 use Rattle.format.specs.Sequences.{value, next, advanced, after, drawn}

@@ -1,5 +1,5 @@
 -- The sum of chips with a sequence added.
-use Rattle.std.proofs.Common.{◌≡◌, ℕ, zero, suc, ◌+◌, ◌<◌, List, [], ◌∷◌, length, get_or, take, refl, ap, ◌∙◌, suc-add, arith}
+use Rattle.std.proofs.Common.{◌≡◌, ℕ, zero, suc, ◌+◌, ◌<◌, List, [], ◌∷◌, length, get_or, take, ap, ◌∙◌, suc-add, arith}
 use lib.Bits.{bit_xor}
 use Rattle.format.specs.Sequences.{next, advanced, after, drawn}
 use Rattle.format.specs.Frame.{added}

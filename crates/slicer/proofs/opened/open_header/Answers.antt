@@ -4,7 +4,6 @@ use Rattle.elements.specs.Octets.{octets}
 use Rattle.polynomials.specs.Differences.{differing}
 use Rattle.format.specs.Sequences.{mixed}
 use Rattle.format.specs.Header.{hcs, joined, unpacked}
-use Rattle.format.specs.Reading.{phy_read, mac_read}
 use Rattle.slicer.specs.Headers.{header_right}
 use Rattle.slicer.proofs.Openings.{phy_is, message_is, mac_is, right_is, right_decides}
 use Rattle.slicer.proofs.opened.open_header.Goals as goal

@@ -1,4 +1,4 @@
-use Rattle.std.proofs.Common.{◌≡◌, ◌+◌, ◌<◌, ◌≤◌, min, length, inl, inr, refl, ⊎_elim, ap, ◌∙◌, arith, ◌⊎◌}
+use Rattle.std.proofs.Common.{◌≡◌, ◌<◌, ◌≤◌, min, length, inl, inr, refl, ⊎_elim, ap, ◌∙◌, arith, ◌⊎◌}
 use Rattle.std.proofs.lemmas.Bool.{cases_lt}
 use Rattle.slicer.proofs.Groups.{word_starts, word_more, word_done}
 use Rattle.slicer.proofs.slicer.header_word.Goals as goal

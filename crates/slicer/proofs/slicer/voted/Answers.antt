@@ -1,4 +1,4 @@
-use Rattle.std.proofs.Common.{◌≡◌, ◌+◌, ◌≤◌, min, length, ◌++◌, sym, ap, ◌∙◌, arith, length-append}
+use Rattle.std.proofs.Common.{◌≡◌, ◌+◌, min, length, sym, ap, ◌∙◌, arith, length-append}
 use Rattle.format.specs.Sequences.{after}
 use Rattle.format.proofs.Mixing.{after_add}
 use Rattle.slicer.proofs.Groups.{vote_more, vote_done}

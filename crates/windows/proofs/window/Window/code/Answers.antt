@@ -1,4 +1,4 @@
-use Rattle.std.proofs.Common.{◌≡◌, ◌+◌, ◌*◌, take, drop, refl, ap, ◌∙◌}
+use Rattle.std.proofs.Common.{◌+◌, ◌*◌, take, refl, ap, ◌∙◌}
 use Rattle.format.specs.Reading.{code_at}
 use Rattle.windows.proofs.Cuts.{from_place, up_to}
 use Rattle.windows.proofs.window.Window.code.Goals as goal
