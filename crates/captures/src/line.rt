@@ -63,9 +63,7 @@ pub fn read_window(line: &[u8]) -> Result<Written<'_>, LineFault>
     ensures { MatchResult result (λ w. WindowIn line.now w.channels w.digits.now) (λ e. line_fault line.now ≡ Some e) }
 {
     let (count, digits) = split_once(line, b' ');
-    let Some(channels) = channel_count(count) else {
-        return Err(LineFault::NoCount);
-    };
+    let channels = channel_count(count).ok_or(LineFault::NoCount)?;
     if digits.is_empty() {
         return Err(LineFault::NoChips);
     }
