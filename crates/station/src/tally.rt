@@ -1,7 +1,9 @@
 // The tally: what was delivered in each mode, and what each refusal turned down.
-ghost use Rattle.std.specs.Prelude.{◌≡◌, ◌≤◌};
+ghost use Rattle.std.specs.Prelude.{◌≡◌};
+ghost use Rattle.faults.specs.Faults.{fault_refusal};
 ghost use Rattle.station.specs.Tallies.{delivered, refused, mode_count, refusal_count};
 
+use faults::Fault;
 use format::Mode;
 
 // What was delivered in one mode: how many windows, and how many octets were mended in them.
@@ -29,11 +31,11 @@ impl Tally {
         row.octets = row.octets.saturating_add(more);
     }
 
-    // One build or read more was turned down by a refusal.
-    pub(crate) fn refuse(&mut self, number: u8)
-        requires { (1 ≤ number) × (number ≤ 19) }
-        ensures { self.new ≡ refused self.old number }
+    // One build or read more was turned down.
+    pub(crate) fn refuse(&mut self, fault: Fault)
+        ensures { self.new ≡ refused self.old (fault_refusal fault).number }
     {
+        let number = fault.refusal().number;
         let count = &mut self.refusals[number as usize - 1];
         *count = count.saturating_add(1);
     }

@@ -43,8 +43,9 @@ impl<M: Mender> Station<M> {
                 Ok(Built { seed, chips: n })
             }
             Err(e) => {
-                self.tally.refuse(e.refusal().number);
-                Err(Fault::Door(e))
+                let fault = Fault::Door(e);
+                self.tally.refuse(fault);
+                Err(fault)
             }
         }
     }
@@ -72,7 +73,7 @@ impl<M: Mender> Station<M> {
     {
         match answer {
             Ok(d) => self.tally.deliver(d.mode, d.mended),
-            Err(e) => self.tally.refuse(e.refusal().number),
+            Err(fault) => self.tally.refuse(fault),
         }
     }
 

@@ -1,6 +1,4 @@
-use Rattle.std.proofs.Common.{refl, ap, ◌∙◌}
-use Rattle.words.specs.declared.fault.Refusal.{Refusal}
-use Rattle.station.specs.Tallies.{refused}
+use Rattle.std.proofs.Common.{refl}
 use Rattle.station.proofs.BuildSteps.{not_built}
 use Rattle.station.proofs.station.Station.build.Goals as goal
 
@@ -9,6 +7,6 @@ returns-in-Err g c =
     record {
       account = not_built c.args.self.now.seed _ c.in-Err.e refl c.write_frame.ensures.body c.in-Err.ensures.answer c.write_frame.ensures.chips;
       seed = refl;
-      tally = c.refuse.ensures ∙ ap (λ (x : Refusal). refused c.args.self.now.tally x.number) c.refusal.ensures;
+      tally = c.refuse.ensures;
       mender = refl;
     }
