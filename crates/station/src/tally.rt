@@ -1,5 +1,5 @@
 // The tally: what was delivered in each mode, and what each refusal turned down.
-ghost use Rattle.std.specs.Prelude.{◌≡◌};
+ghost use Rattle.std.specs.Prelude.{◌≡◌, ◌-◌, cond, None, nat_le, slice_get};
 ghost use Rattle.faults.specs.Faults.{fault_refusal};
 ghost use Rattle.station.specs.Tallies.{delivered, refused, mode_count, refusal_count};
 
@@ -18,6 +18,14 @@ pub struct Row {
 pub struct Tally {
     rows: [Row; 7],
     refusals: [u32; 19],
+}
+
+// The entry of a number; the first is number 1.
+fn numbered<T: Copy>(entries: &[T], number: u8) -> Option<T>
+    ensures { result ≡ cond (nat_le 1 number) (slice_get entries.now (number - 1)) None }
+{
+    let place = number.checked_sub(1)?;
+    entries.get(place as usize).copied()
 }
 
 impl Tally {
@@ -44,15 +52,13 @@ impl Tally {
     pub(crate) fn mode(&self, number: u8) -> Option<Row>
         ensures { result ≡ mode_count self.now number }
     {
-        let place = number.checked_sub(1)?;
-        self.rows.get(place as usize).copied()
+        numbered(&self.rows, number)
     }
 
     // How many builds and reads a refusal turned down; none for another number than 1 to 19.
     pub(crate) fn refusal(&self, number: u8) -> Option<u32>
         ensures { result ≡ refusal_count self.now number }
     {
-        let place = number.checked_sub(1)?;
-        self.refusals.get(place as usize).copied()
+        numbered(&self.refusals, number)
     }
 }
