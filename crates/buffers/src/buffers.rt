@@ -15,16 +15,24 @@ pub enum Buffers {
     Other,
 }
 
+impl Buffers {
+    pub fn text(self) -> &'static str
+        ensures { result.now ≡ buffers_text self }
+    {
+        match self {
+            Buffers::Filled => "filled",
+            Buffers::Untouched => "untouched",
+            Buffers::Zeroed => "zeroed",
+            Buffers::Other => "other",
+        }
+    }
+}
+
 impl fmt::Display for Buffers {
     ghost output = { λ b. Some (buffers_text b) };
 
     fn fmt<W: fmt::Write>(&self, f: &mut fmt::Formatter<W>) -> fmt::Result {
-        match self {
-            Buffers::Filled => write!(f, "filled"),
-            Buffers::Untouched => write!(f, "untouched"),
-            Buffers::Zeroed => write!(f, "zeroed"),
-            Buffers::Other => write!(f, "other"),
-        }
+        f.write_str(self.text())
     }
 }
 

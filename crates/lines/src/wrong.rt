@@ -21,20 +21,28 @@ pub enum Wrong {
     Station,
 }
 
+impl Wrong {
+    pub fn text(self) -> &'static str
+        ensures { result.now ≡ wrong_text self }
+    {
+        match self {
+            Wrong::Call => "unknown call",
+            Wrong::Count => "wrong number of words",
+            Wrong::Number => "bad number",
+            Wrong::Octets => "bad octets",
+            Wrong::Chips => "bad chips",
+            Wrong::Changes => "bad changes",
+            Wrong::Mender => "bad mender",
+            Wrong::Station => "no station is open",
+        }
+    }
+}
+
 impl fmt::Display for Wrong {
     ghost output = { λ w. Some (wrong_text w) };
 
     fn fmt<W: fmt::Write>(&self, f: &mut fmt::Formatter<W>) -> fmt::Result {
-        match self {
-            Wrong::Call => write!(f, "unknown call"),
-            Wrong::Count => write!(f, "wrong number of words"),
-            Wrong::Number => write!(f, "bad number"),
-            Wrong::Octets => write!(f, "bad octets"),
-            Wrong::Chips => write!(f, "bad chips"),
-            Wrong::Changes => write!(f, "bad changes"),
-            Wrong::Mender => write!(f, "bad mender"),
-            Wrong::Station => write!(f, "no station is open"),
-        }
+        f.write_str(self.text())
     }
 }
 
