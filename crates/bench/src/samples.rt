@@ -77,6 +77,7 @@ fn show_frames(
     file: Option<&[u8]>,
 ) -> anyhow::Result<()> {
     let mut station = Station::open(Full {});
+    // By number, which the frame's line and body say.
     for k in 0..asked.count {
         show_frame(rt, &mut station, asked, file, k)?;
     }

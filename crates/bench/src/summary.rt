@@ -15,6 +15,7 @@ fn refused(listener: &Listener) -> u64 {
         .fold(0u64, |all, count| all.saturating_add(u64::from(count)))
 }
 
+// A line for each mode that has deliveries.
 fn show_modes(rt: &impl Print, listener: &Listener) -> anyhow::Result<()> {
     for mode in 1..=7u8 {
         if let Some(row) = listener.station.delivered(mode)
@@ -29,6 +30,7 @@ fn show_modes(rt: &impl Print, listener: &Listener) -> anyhow::Result<()> {
     Ok(())
 }
 
+// A line for each refusal that was given.
 fn show_refusals(rt: &impl Print, listener: &Listener) -> anyhow::Result<()> {
     for number in 1..=19u8 {
         if let Some(count) = listener.station.refused(number)

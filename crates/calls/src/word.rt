@@ -63,6 +63,7 @@ impl<'a> Words<'a> {
         Mending::from_name(self.word(k)).ok_or(Wrong::Mender)
     }
 
+    // A list: each kind has its own reader and its own fault.
     pub(crate) fn octets(self, k: usize) -> Result<Vec<u8>, Stop>
         ensures { Reads vec_items (octets_at self.entry.text.now k) result }
     {

@@ -1,4 +1,4 @@
-// How many answers agreed.
+// How many answers agreed. `trials` counts alike in its own words; a crate for both would be longer than they are.
 use std::fmt;
 
 #[derive(Clone, Copy, Default)]

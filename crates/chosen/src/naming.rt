@@ -53,6 +53,7 @@ fn first_comma(text: &[u8]) -> Option<usize>
     ensures within { IfSome result (λ p. p < length text.now) }
 {
     let mut depth = 0usize;
+    // No `position`: a proof knows nothing of a closure's answers that counts the depth.
     for (i, &c) in text.iter().enumerate() {
         if parts(depth, c) {
             return Some(i);

@@ -27,6 +27,7 @@ pub trait Element: Copy {
     fn inv(self) -> Self
         ensures { result ≡ ops.inv self };
 
+    // Equality by the name that the laws have for it: `==` of a parameter is another operation to them.
     fn same(self, other: Self) -> bool
         ensures { result ≡ ops.same self other };
 

@@ -38,7 +38,7 @@ pub enum HeaderFault {
 pub enum PayloadFault {
     // The window ends before the frame.
     Ends,
-    // A body word is not mended: its place, from 1 (0 until it is known), and the word's cause.
+    // A body word is not mended: its place, from 1 (0 until `at` puts it in), and the word's cause.
     Word(usize, WordFault),
 }
 

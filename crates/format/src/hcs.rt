@@ -53,6 +53,7 @@ fn inverted_octet(bits: &[bool]) -> u8
     ensures { result ≡ value (map (λ t. bit_of (not t)) bits.now) }
 {
     let mut octet = 0;
+    // The index is the shift.
     for (k, t) in bits.iter().enumerate() {
         octet |= (!*t as u8) << k;
     }

@@ -44,6 +44,7 @@ impl Mode {
         }
     }
 
+    // What `try_from` turns back.
     pub fn number(self) -> u8
         ensures { result ≡ (row self).number }
     {

@@ -51,6 +51,7 @@ impl Register {
         ensures bits { self.new.bits ≡ after 8 self.old.bits }
     {
         let mut octet = 0;
+        // No fold: its closure would change the register, and a proof knows nothing of what such a closure answers.
         for k in 0..8u8 {
             octet |= self.next() << k;
         }

@@ -9,6 +9,7 @@ pub fn differences<E: Element>(a: &[E], b: &[E]) -> usize
     ensures { result ≡ differing E.ops a.now b.now }
 {
     let mut n = 0;
+    // With the index, which tells where the shorter row ends.
     for (i, x) in a.iter().enumerate() {
         if i < b.len() && !x.same(b[i]) {
             n += 1;

@@ -11,6 +11,7 @@ fn take_multiple<E: Element>(row: &mut [E], f: E, by: &[E])
     requires { length by.now ≤ length row.old }
     ensures { row.new ≡ less E.ops f by.now row.old }
 {
+    // Written by index: of a row that is written through `zip` a proof knows nothing afterwards.
     for (j, g) in by.iter().enumerate() {
         row[j] = row[j].add(f.mul(*g).neg());
     }
@@ -32,6 +33,7 @@ pub fn remainder<E: Element>(row: &mut [E], divisor: &[E]) -> Option<usize>
     }
     let unit = lead.inv();
     let n = row.len().saturating_sub(rest.len());
+    // By place, since each step reads what the step before wrote behind it.
     for i in 0..n {
         let f = row[i].mul(unit);
         row[i] = f;

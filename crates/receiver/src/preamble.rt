@@ -27,6 +27,7 @@ fn signed_mode(second: Code, third: Code, fourth: Code) -> Option<Mode>
 pub fn read_mode(window: Window<'_>, n: u8) -> Result<Mode, PreambleFault>
     ensures { result ≡ preamble_row n window.entry.chips.now }
 {
+    // A chain of let .. else, in which each leaves with its own row.
     let Some(first) = sfd_code(window, n, 0) else {
         return Err(PreambleFault::Unreadable(1));
     };

@@ -9,6 +9,7 @@ use std::alloc::{AllocError, Global};
 fn read_chip(digit: u8) -> Option<u8>
     ensures { result ≡ chip_value digit }
 {
+    // `char::to_digit` would want a character of each octet first.
     match digit {
         b'0'..=b'9' => Some(digit - b'0'),
         _ => None,

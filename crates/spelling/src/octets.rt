@@ -11,6 +11,7 @@ fn digit_value(digit: u8) -> Option<u8>
     ensures value { result ≡ hex_value digit }
     ensures small { IfSome result (λ v. v < 16) }
 {
+    // `char::to_digit` takes upper case too.
     match digit {
         b'0'..=b'9' => Some(digit - b'0'),
         b'a'..=b'f' => Some(digit - b'a' + 10),

@@ -54,6 +54,7 @@ fn built_digest<M: Mender>(
 pub(crate) fn chips(heap: Global) -> Result<Count, AllocError> {
     let mut count = Count::default();
     let mut station = Station::open(Still {});
+    // By number, which gives a frame's mode, MAC header and body too.
     for (k, expected) in EXPECTED.iter().enumerate() {
         let found = built_digest(heap, &mut station, k, LENGTHS[k % 8])?;
         count.note(found == Some(*expected));
