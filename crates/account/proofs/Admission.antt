@@ -62,12 +62,6 @@ passed n w body mac h =
       chips = good_chips w (no_chip (bad_from 0 w) c.1);
     }
 
--- the header's part of the window is there
-pub part_stands : (n : ℕ) (w body mac : List ℕ) (e : DoorFault) → Passed n w body mac → part_row n w ≡ Some e → ⊥
-part_stands n w body mac e p h =
-    let none : part_row n w ≡ None = grind (arith, nat_tests) in
-    let z : ◌≡◌ {A = ℕ} 0 1 = cc in omega arith
-
 -- ---- the buffers
 
 -- zeros fill the front of the body buffer

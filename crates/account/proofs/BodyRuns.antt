@@ -58,9 +58,6 @@ split_words f n k h =
     )
 
 module _ {M : Type 0} (rule : Rule M) (s : M) (m : Mode) (L : ℕ) (w body : List ℕ) where
-  pub starts : SoFar rule s m L w 0 0 body body s
-  starts = record { asks = []; chain = refl; words = []; all = (refl, refl, refl); filled = refl }
-
   pub few : (k total : ℕ) (after : List ℕ) (t : M) → SoFar rule s m L w k total body after t → total ≤ 8 * k
   few k total after t so =
       let words = map (word_read m L w) (range_with_len 0 k) in

@@ -18,9 +18,8 @@ pub trait Mender {
     fn reach(&self) -> usize
         ensures { result ≡ reach self.now };
 
-    // The buffer is the caller's and of a fixed size, since there is no heap, and what of it is in use is the answer.
     // Writes a proposal to the front of the buffer, with blank changes behind it, and answers how many changes it has;
-    // none where nothing is proposed, and the whole buffer is then blank.
+    // none where nothing is proposed, and the whole buffer is then blank. The buffer is the caller's and of a fixed size, since there is no heap.
     fn propose(&mut self, word: &[u8], out: &mut [Change; 16]) -> Option<usize>
         ensures rule { rule self.old word.now (answer result out.new) self.new }
         ensures written { Written result out.new };
