@@ -74,7 +74,7 @@ impl Payload<'_> {
         let body = &mut buffer[..self.length as usize];
         let mended = self.read_words(mender, body)?;
         // The scrambler's sequence goes on where the header left it.
-        let _ = mix(body, Register::scrambler(self.seed).skip(96));
+        mix(body, Register::scrambler(self.seed).skip(96));
         Ok(mended)
     }
 }

@@ -1,5 +1,5 @@
 // What a header word says.
-ghost use Rattle.std.specs.Prelude.{◌≡◌, ◌+◌, ◌≤◌, length, take, drop, Decides, ◌==◌};
+ghost use Rattle.std.specs.Prelude.{◌≡◌, take, drop, Decides, ◌==◌};
 ghost use Rattle.elements.specs.Octets.{octets as octet_ops};
 ghost use Rattle.polynomials.specs.Differences.{differing};
 ghost use Rattle.format.specs.Header.{hcs};
@@ -20,16 +20,6 @@ pub struct Opened {
     pub right: bool,
 }
 
-// The N octets from a place on.
-fn octets_at<const N: usize>(octets: &[u8], place: usize) -> [u8; N]
-    requires { place + N ≤ length octets.now }
-    ensures { result ≡ take N (drop place octets.now) }
-{
-    let mut part = [0; N];
-    part.copy_from_slice(&octets[place..place + N]);
-    part
-}
-
 // Whether the check sequence at a message's end is that of the headers before it.
 fn is_right(message: &[u8; 16]) -> bool
     ensures { result ≡ (differing octet_ops (drop 14 message.now) (hcs (take 14 message.now)) == 0) }
@@ -46,13 +36,13 @@ pub fn open_header(word: &[u8; 32]) -> Opened
     ensures right { result.right ≡ header_right word.now }
     ensures decides { Decides result.right (hcs_read word.now ≡ hcs_asked word.now) }
 {
-    let mut message = octets_at::<16>(word, 0);
-    let phy = unpack(&octets_at(&message, 0));
+    let mut message = *word.first_chunk::<16>().unwrap();
+    let phy = unpack(message.first_chunk().unwrap());
     // Behind the PHY header, which is sent plain, the sequence is taken off.
-    let _ = mix(&mut message[4..], Register::scrambler(phy.seed));
+    mix(&mut message[4..], Register::scrambler(phy.seed));
     Opened {
         phy,
-        mac: octets_at(&message, 4),
+        mac: *message[4..].first_chunk().unwrap(),
         right: is_right(&message),
     }
 }
