@@ -11,7 +11,7 @@ use format::{Mode, Register, block_count, mix, word_count};
 
 // Writes the words of a body: 224 octets a message, the last may have fewer.
 fn write_words(octets: &mut [u8], body: &[u8])
-    requires { (length body.now ≤ 2048) × (length octets.old ≡ coded_octets (length body.now)) }
+    requires { length octets.old ≡ coded_octets (length body.now) }
     ensures { octets.new ≡ coded (word_count (length body.now)) body.now }
 {
     for (k, message) in body.chunks(224).enumerate() {
@@ -24,20 +24,6 @@ fn write_words(octets: &mut [u8], body: &[u8])
 struct Carried([u8; 2223]);
 
 impl Carried {
-    // The words of a body, and behind them zeros scrambled from where the body left the sequence, up to the end:
-    // the blocks take as many of their bits as they want for stuff bits.
-    fn new(body: &[u8], behind: Register) -> Carried
-        requires { length body.now ≤ 2048 }
-        ensures { result.0 ≡ coded (word_count (length body.now)) body.now ++ mixed behind.bits (replicate (2223 - coded_octets (length body.now)) 0) }
-    {
-        let mut octets = [0u8; 2223];
-        let words = body.len() + 16 * word_count(body.len() as u16) as usize;
-        let (coded, stuff) = octets.split_at_mut(words);
-        write_words(coded, body);
-        mix(stuff, behind);
-        Carried(octets)
-    }
-
     // Bit q of a block, its pilots too.
     fn bit(&self, block: usize, q: usize) -> u8
         requires { (block < 35) × (q < 512) }
@@ -61,15 +47,40 @@ impl Carried {
     }
 }
 
-// Writes the payload of a scrambled body, block behind block; the stuff bits come from where the body left the sequence.
-pub(crate) fn write_payload(chips: &mut [u8], mode: Mode, body: &[u8], behind: Register)
-    requires { (length body.now ≤ 2048) × (length chips.old ≡ 512 * (row mode).spread * block_count (length body.now)) }
-    ensures { chips.new ≡ blocks (row mode).spread (block_count (length body.now)) (carried body.now behind.bits) }
-{
-    let carried = Carried::new(body, behind);
-    let spread = mode.spread();
-    for block in 0..block_count(body.len() as u16) {
-        let part = &mut chips[512 * spread * block..512 * spread * (block + 1)];
-        carried.write_block(part, block, spread);
+// The payload of a frame: its body as it stands scrambled.
+#[derive(Clone, Copy)]
+pub(crate) struct Payload<'a> {
+    pub(crate) mode: Mode,
+    pub(crate) body: &'a [u8],
+    // The scrambler's register behind the body.
+    pub(crate) behind: Register,
+    ghost short: { length body.now ≤ 2048 },
+}
+
+impl Payload<'_> {
+    // The words of the body, and behind them zeros scrambled from where the body left the sequence, up to the end:
+    // the blocks take as many of their bits as they want for stuff bits.
+    fn carried(&self) -> Carried
+        ensures { result.0 ≡ coded (word_count (length self.now.body.now)) self.now.body.now ++ mixed self.now.behind.bits (replicate (2223 - coded_octets (length self.now.body.now)) 0) }
+    {
+        let mut octets = [0u8; 2223];
+        let words = self.body.len() + 16 * word_count(self.body.len() as u16) as usize;
+        let (coded, stuff) = octets.split_at_mut(words);
+        write_words(coded, self.body);
+        mix(stuff, self.behind);
+        Carried(octets)
+    }
+
+    // Writes the payload, block behind block.
+    pub(crate) fn write(&self, chips: &mut [u8])
+        requires { length chips.old ≡ 512 * (row self.now.mode).spread * block_count (length self.now.body.now) }
+        ensures { chips.new ≡ blocks (row self.now.mode).spread (block_count (length self.now.body.now)) (carried self.now.body.now self.now.behind.bits) }
+    {
+        let carried = self.carried();
+        let spread = self.mode.spread();
+        for block in 0..block_count(self.body.len() as u16) {
+            let part = &mut chips[512 * spread * block..512 * spread * (block + 1)];
+            carried.write_block(part, block, spread);
+        }
     }
 }

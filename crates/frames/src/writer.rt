@@ -7,10 +7,10 @@ ghost use Rattle.frames.specs.Blocks.{carried};
 ghost use Rattle.frames.specs.Writing.{sized, write_answer, write_chips};
 
 use crate::header::{word_of, write_header};
-use crate::payload::write_payload;
+use crate::payload::Payload;
 use crate::preamble::write_preamble;
 use crate::scrambled::Scrambled;
-use format::{DoorFault, Mode, Phy, Register, frame_length};
+use format::{DoorFault, Mode, Phy, frame_length};
 
 // The mode of a frame, or the first reason to refuse it but for the room that it wants.
 fn admit(mode: u8, mac: usize, body: usize) -> Result<Mode, DoorFault>
@@ -27,15 +27,15 @@ fn admit(mode: u8, mac: usize, body: usize) -> Result<Mode, DoorFault>
 }
 
 // Writes preamble, header and payload one behind the other.
-fn write_parts(chips: &mut [u8], mode: Mode, word: &[u8; 32], body: &[u8], behind: Register)
-    requires { (length body.now ≤ 2048) × (length chips.old ≡ frame_length mode (length body.now)) }
-    ensures { chips.new ≡ preamble mode ++ (header_chips word.now ++ blocks (row mode).spread (block_count (length body.now)) (carried body.now behind.bits)) }
+fn write_parts(chips: &mut [u8], word: &[u8; 32], payload: &Payload<'_>)
+    requires { length chips.old ≡ frame_length payload.now.mode (length payload.now.body.now) }
+    ensures { chips.new ≡ preamble payload.now.mode ++ (header_chips word.now ++ blocks (row payload.now.mode).spread (block_count (length payload.now.body.now)) (carried payload.now.body.now payload.now.behind.bits)) }
 {
-    let (preamble, rest) = chips.split_at_mut(2560 * mode.channels());
-    let (header, payload) = rest.split_at_mut(4096);
-    write_preamble(preamble, mode);
+    let (preamble, rest) = chips.split_at_mut(2560 * payload.mode.channels());
+    let (header, blocks) = rest.split_at_mut(4096);
+    write_preamble(preamble, payload.mode);
     write_header(header, word);
-    write_payload(payload, mode, body, behind);
+    payload.write(blocks);
 }
 
 // Writes a frame at the front of the chips and answers how many it has. Refuses, with nothing written, a mode that is none of 1 to 7,
@@ -66,6 +66,11 @@ pub fn write_frame(
     if chips.len() < n {
         return Err(DoorFault::Room);
     }
-    write_parts(&mut chips[..n], m, &word, guard.view(), guard.behind());
+    let payload = Payload {
+        mode: m,
+        body: guard.view(),
+        behind: guard.behind(),
+    };
+    write_parts(&mut chips[..n], &word, &payload);
     Ok(n)
 }

@@ -8,11 +8,15 @@ use Rattle.frames.proofs.Admissions.{sized_fits, roomed_yes}
 use Rattle.frames.proofs.WholeFrames.{frame_done, restored}
 use Rattle.frames.proofs.writer.write_frame.Goals as goal
 
+pub invariant_of-payload : goal.invariant_of-payload
+invariant_of-payload c =
+    let long : length c.view.result.now ≡ length c.args.body.now = ap length (c.view.ensures ∙ c.new-guard.ensures.scrambled) ∙ length_mixed _ c.args.body.now in
+    rw long record { short = (sized_fits (mode_of c.args.mode) c.in_ok-m.m (length c.args.mac.now) (length c.args.body.now) c.in_ok-m.ensures).1 }
+
 pub write_parts-requires : goal.write_parts-requires
 write_parts-requires c =
-    let few = (sized_fits (mode_of c.args.mode) c.in_ok-m.m (length c.args.mac.now) (length c.args.body.now) c.in_ok-m.ensures).1 in
     let long : length c.view.result.now ≡ length c.args.body.now = ap length (c.view.ensures ∙ c.new-guard.ensures.scrambled) ∙ length_mixed _ c.args.body.now in
-    rw long (few, length-take-le c.frame_length-n.result c.args.chips.now (omega arith) ∙ c.frame_length-n.ensures)
+    rw long (length-take-le c.frame_length-n.result c.args.chips.now (omega arith) ∙ c.frame_length-n.ensures)
 
 pub returns-clause-chips : goal.returns-clause-chips
 returns-clause-chips c =
