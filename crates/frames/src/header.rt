@@ -7,8 +7,7 @@ use crate::word::write_word;
 use format::{Phy, Register, header_check, mix, pack};
 
 // The first 16 octets of the header word: the PHY header plain, the MAC header and its check scrambled.
-fn message_of(h: Phy, mac: &[u8]) -> [u8; 16]
-    requires { length mac.now ≡ 10 }
+fn message_of(h: Phy, mac: &[u8; 10]) -> [u8; 16]
     ensures { result ≡ header_message h.seed (phy_octets h) mac.now }
 {
     let mut message = [0u8; 16];
@@ -24,8 +23,7 @@ fn message_of(h: Phy, mac: &[u8]) -> [u8; 16]
 
 // The header word: the message and its parity.
 #[tactic(auto, unfolding(format::specs::Header::header_word))]
-pub(crate) fn word_of(h: Phy, mac: &[u8]) -> [u8; 32]
-    requires { length mac.now ≡ 10 }
+pub(crate) fn word_of(h: Phy, mac: &[u8; 10]) -> [u8; 32]
     ensures { result ≡ header_word h mac.now }
 {
     let mut word = [0u8; 32];

@@ -61,7 +61,7 @@ pub fn write_frame(
         length: body.len() as u32,
         reserved: 0,
     };
-    let word = word_of(phy, mac);
+    let word = word_of(phy, mac.as_array().unwrap());
     let guard = Scrambled::new(body, phy.seed);
     if chips.len() < n {
         return Err(DoorFault::Room);

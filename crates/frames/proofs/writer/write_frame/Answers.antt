@@ -1,6 +1,8 @@
 use Rattle.std.proofs.Common.{◌≡◌, ◌≤◌, length, ap, ◌∙◌, arith, rules}
 use Rattle.std.proofs.lemmas.List.{length-take-le}
+use Rattle.std.proofs.lemmas.Option.{MatchOption-at_some}
 use Rattle.format.specs.Modes.{mode_of}
+use Rattle.format.specs.Header.{header_word}
 use Rattle.format.specs.Frame.{frame_length}
 use Rattle.format.proofs.Lengths.{length_mixed}
 use Rattle.frames.specs.Writing.{sized, frame_of, chips_by}
@@ -27,7 +29,7 @@ returns-clause-chips c =
     let f = frame_of m c.args.seed c.args.aggregation mac body in
     let room : frame_length c.in_ok-m.m (length c.args.body.now) ≤ length c.args.chips.now = omega arith in
     let let_in = roomed_yes (sized (mode_of c.args.mode) (length mac) (length body)) m (length body) (length chips) c.in_ok-m.ensures room in
-    frame_done f chips c.write_parts.new.chips c.word_of-word.result c.view.result.now c.behind.result.bits c.frame_length-n.result c.frame_length-n.ensures c.word_of-word.ensures
+    frame_done f chips c.write_parts.new.chips c.word_of-word.result c.view.result.now c.behind.result.bits c.frame_length-n.result c.frame_length-n.ensures (c.word_of-word.ensures ∙ ap (header_word _) (MatchOption-at_some _ _ _ c.unwrap.ensures c.as_array.ensures.cases).same)
     (c.view.ensures ∙ c.new-guard.ensures.scrambled) (c.behind.ensures ∙ c.new-guard.ensures.behind) c.write_parts.ensures
     ∙ ap (λ a. chips_by a c.args.seed c.args.aggregation mac body chips) let_in
 
