@@ -14,6 +14,7 @@ fn write_words(octets: &mut [u8], body: &[u8])
     requires { length octets.old ≡ coded_octets (length body.now) }
     ensures { octets.new ≡ coded (word_count (length body.now)) body.now }
 {
+    // Into ranges, here and below: of a row that is written through its chunks a proof knows nothing afterwards.
     for (k, message) in body.chunks(224).enumerate() {
         write_word(&mut octets[240 * k..240 * k + message.len() + 16], message);
     }

@@ -17,6 +17,7 @@ fn write_codes(chips: &mut [u8], signs: &[bool])
     requires { length chips.old ≡ 128 * length signs.now }
     ensures { chips.new ≡ all_signed signs.now }
 {
+    // By ranges, here and below: of a row that is written through its chunks a proof knows nothing afterwards.
     for (k, minus) in signs.iter().enumerate() {
         chips[128 * k..128 * (k + 1)].copy_from_slice(signed(*minus));
     }

@@ -53,6 +53,7 @@ impl Payload<'_> {
         ensures { BodyAs M.Mender.rule mender.old (words_read self.now.mode self.now.length self.now.window.chips.now) result body.new mender.new }
     {
         let mut total = 0;
+        // By number: of a row that is written through its chunks a proof knows nothing afterwards.
         for k in 0..word_count(self.length) {
             total += self.read_word(mender, k, body)?;
         }

@@ -12,7 +12,7 @@ use format::header::unpack;
 use format::sequence::{Register, mix};
 use polynomials::differences;
 
-// A header's fields, and whether its check sequence is right.
+// A header's fields, and whether its check sequence is right: the fields are told whatever it is.
 #[derive(Clone, Copy, Debug)]
 pub struct Opened {
     pub phy: Phy,

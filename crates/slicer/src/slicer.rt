@@ -43,6 +43,7 @@ pub fn header_word(part: Part<'_>) -> [u8; 32]
 {
     let mut word = [0u8; 32];
     let mut register = Register::spreader();
+    // The word is written by index: of a row that is written through `zip` a proof knows nothing afterwards.
     for (j, chips) in part.chips.chunks(128).take(32).enumerate() {
         word[j] = voted(chips, &mut register);
     }
@@ -75,6 +76,7 @@ impl Payload<'_> {
         ensures { result ≡ payload_octet self.entry.mode (masked self.entry.window.chips.now) j }
     {
         let mut octet = 0;
+        // The index is the shift.
         for k in 0..8u8 {
             octet |= self.bit(8 * j + k as usize) << k;
         }
