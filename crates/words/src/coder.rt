@@ -19,6 +19,7 @@ pub fn encode(message: &[u8], parity: &mut [u8]) -> Result<(), CoderFault>
     }
     let mut row = [0; 17];
     let mut divisor = [0; 17];
+    // None where the parity buffer has another length than the check.
     checksum::<Parity>(message, parity, &mut row, &mut divisor).ok_or(CoderFault::Lengths)?;
     Ok(())
 }
