@@ -13,9 +13,7 @@ pub fn mend<M: Mender>(mender: &mut M, word: &mut [u8]) -> Result<usize, WordFau
         return Ok(0);
     }
     let mut out = [Change::BLANK; 16];
-    let Some(n) = mender.propose(word, &mut out) else {
-        return Err(WordFault::Nothing);
-    };
+    let n = mender.propose(word, &mut out).ok_or(WordFault::Nothing)?;
     apply(word, &out[..n])?;
     Ok(n)
 }
