@@ -66,17 +66,18 @@ eliminated r vs L o p pivot found some gone row =
     ∙ rewritten p F R (clear_rows octets r pivot R) front (length_clear_rows octets r pivot R)
     ∙ ap (λ v. F ++ clear_rows octets r v R) (row ∙ get_or_default vs p pivot [] goes.0) ∙ sym goes.1
 
--- n entries from k on, as an equation
-pub window_part : (xs : List ℕ) (k n : ℕ) → k + n ≤ length xs → take n (drop k xs) ≡ window (entries xs) k n
-window_part xs k zero fits = refl
-window_part xs k (suc n) fits =
-    ap (take (suc n)) (drop_more xs k 0 (omega arith) ∙ ap (λ i. get_or xs k 0 ∷ drop i xs) (add-one k))
-    ∙ ap (λ l. get_or xs k 0 ∷ l) (window_part xs (suc k) n (omega arith))
+-- n of the first m entries from k on, as an equation
+pub window_part : (xs : List ℕ) (m k n : ℕ) → k + n ≤ m → m ≤ length xs → take n (drop k (take m xs)) ≡ window (entries xs) k n
+window_part xs m k zero fits le = refl
+window_part xs m k (suc n) fits le =
+    let X = take m xs in
+    ap (take (suc n)) (drop_more X k 0 (omega (arith, length-take-le m xs le)) ∙ ap (λ i. get_or X k 0 ∷ drop i X) (add-one k))
+    ∙ ap₂ (λ a l. a ∷ l) (get_or-take m xs k 0 (omega arith)) (window_part xs m (suc k) n (omega arith) le)
 
 -- one equation more
-pub kernel_more : (xs : List ℕ) (n t k : ℕ) (rows next : List (List ℕ)) → k < t → k + n ≤ length xs → next ≡ eliminate_rows octets (take n (drop k xs)) rows
+pub kernel_more : (xs : List ℕ) (m n t k : ℕ) (rows next : List (List ℕ)) → k < t → k + n ≤ m → m ≤ length xs → next ≡ eliminate_rows octets (take n (drop k (take m xs))) rows
     → kernel_rows octets (windows (entries xs) n (k + 1) (t - (k + 1))) next ≡ kernel_rows octets (windows (entries xs) n k (t - k)) rows
-kernel_more xs n t k rows next below fits e =
+kernel_more xs m n t k rows next below fits le e =
     let steps : t - k ≡ suc (t - (k + 1)) = omega arith in
-    ap₂ (λ i vs. kernel_rows octets (windows (entries xs) n i (t - (k + 1))) vs) (add-one k) (e ∙ ap (λ r. eliminate_rows octets r rows) (window_part xs k n fits))
+    ap₂ (λ i vs. kernel_rows octets (windows (entries xs) n i (t - (k + 1))) vs) (add-one k) (e ∙ ap (λ r. eliminate_rows octets r rows) (window_part xs m k n fits le))
     ∙ sym (ap (λ m. kernel_rows octets (windows (entries xs) n k m) rows) steps)

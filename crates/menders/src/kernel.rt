@@ -79,8 +79,8 @@ fn solutions(syndromes: &[u8; 16], t: usize) -> Rows
 {
     let mut rows = ArrayVec::from(UNITS);
     rows.truncate(t + 1);
-    for k in 0..t {
-        eliminate(&mut rows, &syndromes[k..k + t + 1]);
+    for equation in syndromes[..2 * t].windows(t + 1) {
+        eliminate(&mut rows, equation);
     }
     rows
 }

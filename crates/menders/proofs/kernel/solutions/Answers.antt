@@ -1,4 +1,5 @@
-use Rattle.std.proofs.Common.{◌≡◌, ◌+◌, ◌-◌, take, drop, sym, ap, ◌∙◌, arith}
+use Rattle.std.proofs.Common.{◌≡◌, ◌+◌, ◌-◌, ◌*◌, ◌<◌, take, drop, length, sym, ap, ap₂, ◌∙◌, arith, length-drop}
+use Rattle.std.proofs.lemmas.List.{drop-drop, length-take-le}
 use Rattle.elements.specs.Octets.{octets}
 use Rattle.coding.specs.Kernel.{kernel_rows, eliminate_rows}
 use Rattle.coding.specs.Decoder.{windows}
@@ -7,21 +8,32 @@ use Rattle.menders.proofs.Elimination.{kernel_more}
 use Rattle.menders.proofs.Narrowing.{take_units}
 use Rattle.menders.proofs.kernel.solutions.Goals as goal
 
-pub loop-k-preserved : goal.loop-k-preserved
-loop-k-preserved c =
+pub loop-equation-preserved : goal.loop-equation-preserved
+loop-equation-preserved c =
+    let i = c.loop-equation.invariant in
     let s = c.args.syndromes.now in
-    let k = c.loop-k.k in
     let t = c.args.t in
-    let wide : c.loop-k.k + c.args.t + 1 - c.loop-k.k ≡ c.args.t + 1 = omega arith in
-    kernel_more s (t + 1) t k c.loop-k.rows.items c.eliminate.new.rows.items (omega arith) (omega arith)
-    (c.eliminate.ensures ∙ ap (λ n. eliminate_rows octets (take n (drop k s)) c.loop-k.rows.items) wide)
-    ∙ c.loop-k.invariant
+    let k = i.0 in
+    let step = c.in-Some.ensures.steps in
+    let rest = i.3 in
+    let below : i.0 < c.args.t =
+    omega (arith, step.1.0, i.2, ap length rest, length-drop k (take (2 * t) s), length-take-le (2 * t) s (omega arith)) in (
+      k + 1,
+      omega arith,
+      step.0 ∙ i.2,
+      step.1.2 ∙ ap (drop 1) rest ∙ drop-drop 1 k (take (2 * t) s),
+      kernel_more s (2 * t) (t + 1) t k c.loop-equation.rows.items c.eliminate.new.rows.items below (omega arith) (omega arith)
+          (c.eliminate.ensures ∙ ap (λ r. eliminate_rows octets r c.loop-equation.rows.items) (step.1.1 ∙ ap₂ take i.2 rest)) ∙ i.4,
+    )
 
 pub returns : goal.returns
 returns c =
+    let i = c.loop-equation.invariant in
     let s = entries c.args.syndromes.now in
     let t = c.args.t in
-    let none : c.args.t - c.loop-k.k ≡ 0 = omega arith in
-    sym (ap (λ m. kernel_rows octets (windows s (t + 1) c.loop-k.k m) c.loop-k.rows.items) none) ∙ c.loop-k.invariant
+    let k = i.0 in
+    let none : c.args.t - i.0 ≡ 0 =
+    omega (arith, c.in-None.ensures.steps.1.0, i.2, ap length i.3, length-drop k (take (2 * t) c.args.syndromes.now), length-take-le (2 * t) c.args.syndromes.now (omega arith)) in
+    sym (ap (λ m. kernel_rows octets (windows s (t + 1) k m) c.loop-equation.rows.items) none) ∙ i.4
     ∙ ap (kernel_rows octets (windows s (t + 1) 0 t))
     (c.truncate.ensures.items ∙ ap (take (t + 1)) c.from-rows.ensures.0 ∙ take_units octets 9 9 0 (t + 1) (omega arith))
