@@ -1,7 +1,7 @@
 -- Steps of the values at the places that were found, and of the list of changes.
-use Rattle.std.proofs.Common.{◌≡◌, ℕ, zero, suc, ◌+◌, ◌-◌, ◌<◌, ◌≤◌, true, false, cond, ◌||◌, eqb, List, [], ◌∷◌, ◌++◌, length, get_or, take, drop, set, sym, refl, ap, ◌∙◌, add-one, arith, length-append, length-set}
+use Rattle.std.proofs.Common.{◌≡◌, ℕ, zero, suc, ◌+◌, ◌-◌, ◌<◌, ◌≤◌, true, false, cond, ◌||◌, eqb, List, [], ◌∷◌, ◌++◌, length, get_or, drop, sym, refl, ap, ◌∙◌, add-one, arith, length-append}
 use lib.Bits.{bit_xor}
-use Rattle.std.proofs.lemmas.List.{append_assoc, drop_more, drop-drop, drop-set-lt, take_more_set, length-take-le}
+use Rattle.std.proofs.lemmas.List.{append_assoc, drop_more}
 use Rattle.std.proofs.lemmas.Bool.{eq-eqb, ne_eqb, eqb-true, eqb-false, both_ways}
 use Rattle.std.specs.List.{list_any}
 use Rattle.elements.specs.Octets.{octets, product, power}
@@ -77,33 +77,21 @@ module _ (s : ℕ → ℕ) (v ys : List ℕ) (n k e : ℕ) (all : ys ≡ roots o
       let back : k ≡ suc (k - 1) = omega arith in
       ap left_of back ∙ ap (λ o. cond (eqb o 0) (left_of (k - 1)) (record { place = n - 1 - (k - 1); octet = o } ∷ left_of (k - 1))) (sym value)
 
-  fits : length (left_of n) ≤ 16
-  fits = omega (arith, repairs_few s v ys n n, ap length all)
-
-  -- the first `count` changes are written, over what the buffer held
-  module _ (out old : List Change) (count : ℕ)
-      (so_far : (length out ≡ 16) × (count ≤ 16) × (drop count out ≡ drop count old) × (take count out ++ left_of k ≡ left_of n)) where
-    pub passed_over : e ≡ 0 → (length out ≡ 16) × (count ≤ 16) × (drop count out ≡ drop count old) × (take count out ++ left_of (k - 1) ≡ left_of n)
+  -- the changes at the places before are made
+  module _ (made : List Change) (so_far : made ++ left_of k ≡ left_of n) where
+    pub passed_over : e ≡ 0 → made ++ left_of (k - 1) ≡ left_of n
     passed_over none =
         let skip = repair_is ∙ ap (λ t. cond t (left_of (k - 1)) (change ∷ left_of (k - 1))) (eq-eqb e 0 none) in
-        (so_far.0, so_far.1, so_far.2, ap (λ l. take count out ++ l) (sym skip) ∙ so_far.3)
+        ap (λ l. made ++ l) (sym skip) ∙ so_far
 
     module _ (apart : e ≡ 0 → ⊥) where
-      left : take count out ++ (change ∷ left_of (k - 1)) ≡ left_of n
+      left : made ++ (change ∷ left_of (k - 1)) ≡ left_of n
       left =
-          let found = repair_is ∙ ap (λ t. cond t (left_of (k - 1)) (change ∷ left_of (k - 1))) (ne_eqb e 0 apart) in
-          ap (λ l. take count out ++ l) (sym found) ∙ so_far.3
+          let next = repair_is ∙ ap (λ t. cond t (left_of (k - 1)) (change ∷ left_of (k - 1))) (ne_eqb e 0 apart) in
+          ap (λ l. made ++ l) (sym next) ∙ so_far
 
-      pub room : count < 16
-      room =
-          omega (arith, fits, ap length left, length-append (take count out) (change ∷ left_of (k - 1)), length-take-le count out (omega (arith, so_far.0, so_far.1)))
+      pub room : length made < 8
+      room = omega (arith, few, ap length all, repairs_few s v ys n n, ap length left, length-append made (change ∷ left_of (k - 1)))
 
-      pub written : let new = set out count change in
-          (length new ≡ 16) × (count + 1 ≤ 16) × (drop (count + 1) new ≡ drop (count + 1) old) × (take (count + 1) new ++ left_of (k - 1) ≡ left_of n)
-      written =
-          let below : count < 16 = room in (
-            length-set out count change ∙ so_far.0,
-            omega arith,
-            drop-set-lt (count + 1) out count change (omega arith) ∙ sym (drop-drop 1 count out) ∙ ap (drop 1) so_far.2 ∙ drop-drop 1 count old,
-            ap (λ l. l ++ left_of (k - 1)) (take_more_set out count change (omega (arith, so_far.0))) ∙ append_assoc (take count out) (change ∷ []) (left_of (k - 1)) ∙ left,
-          )
+      pub added : (made ++ (change ∷ [])) ++ left_of (k - 1) ≡ left_of n
+      added = append_assoc made (change ∷ []) (left_of (k - 1)) ∙ left

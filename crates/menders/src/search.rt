@@ -1,24 +1,23 @@
 // The search for the codeword next to a word.
-ghost use Rattle.std.specs.Prelude.{◌≡◌, ◌≤◌, length, take, drop};
+ghost use Rattle.std.specs.Prelude.{◌≤◌, length};
 ghost use Rattle.mending.specs.Menders.{Nearest, Written, answer};
 ghost use Rattle.menders.specs.Repairs.{Proposed};
 
 use crate::kernel::locator;
 use crate::syndrome::{Powers, syndromes};
 use crate::values::Errors;
+use arrayvec::ArrayVec;
 use words::{Change, accept};
 
-// Writes the changes that a locating vector calls for, and answers how many.
-fn candidates(word: &[u8], t: usize, out: &mut [Change; 16]) -> usize
+// The changes that a locating vector calls for.
+fn candidates(word: &[u8], t: usize) -> ArrayVec<Change, 8>
     requires { (length word.now ≤ 240) × (t ≤ 8) }
-    ensures few { result ≤ 16 }
-    ensures changes { Proposed t word.now (take result out.new) }
-    ensures rest { drop result out.new ≡ drop result out.old }
+    ensures { Proposed t word.now result.items }
 {
     let powers = Powers::new();
     let syndromes = syndromes(word, &powers);
     let vector = locator(&syndromes, t);
-    Errors::locate(&syndromes, &vector[..t + 1], &powers, word.len()).write(out)
+    Errors::locate(&syndromes, &vector[..t + 1], &powers, word.len()).changes()
 }
 
 // Looks for the codeword that differs from the word in 1 to t places: writes the difference to it, with blank changes behind, and answers how many changes it has.
@@ -29,13 +28,13 @@ pub(crate) fn nearest(word: &[u8], t: usize, out: &mut [Change; 16]) -> Option<u
     ensures written { Written result out.new }
 {
     *out = [Change::BLANK; 16];
-    if word.len() < 17 || word.len() > 240 {
+    if !(17..=240).contains(&word.len()) {
         return None;
     }
-    let count = candidates(word, t, out);
-    if count <= t && accept(word, &out[..count]).is_ok() {
-        return Some(count);
+    let changes = candidates(word, t);
+    if changes.len() > t || accept(word, &changes).is_err() {
+        return None;
     }
-    *out = [Change::BLANK; 16];
-    None
+    out[..changes.len()].copy_from_slice(&changes);
+    Some(changes.len())
 }

@@ -1,5 +1,5 @@
 // The places that a vector locates, and what is wrong at each.
-ghost use Rattle.std.specs.Prelude.{◌≡◌, ◌<◌, ◌≤◌, [], ◌∷◌, ◌++◌, length, take, drop};
+ghost use Rattle.std.specs.Prelude.{◌≡◌, ◌<◌, ◌≤◌, [], ◌∷◌, ◌++◌, length};
 ghost use Rattle.elements.specs.Octets.{octets, power};
 ghost use Rattle.coding.specs.Sums.{times_root, from_roots};
 ghost use Rattle.coding.specs.Decoder.{roots, others, magnitude as magnitude_of, correction as correction_of};
@@ -122,24 +122,21 @@ impl<'a> Errors<'a> {
         }
     }
 
-    // Writes what is wrong as changes, in ascending place, and answers how many.
-    pub(crate) fn write(&self, out: &mut [Change; 16]) -> usize
-        ensures few { result ≤ 16 }
-        ensures changes { let e = self.now in take result out.new
+    // What is wrong as changes, in ascending place.
+    pub(crate) fn changes(&self) -> ArrayVec<Change, 8>
+        ensures { let e = self.now in result.items
             ≡ repairs (correction_of octets (entries e.syndromes.now) e.vector.now (roots octets power e.vector.now e.len)) e.len e.len }
-        ensures rest { drop result out.new ≡ drop result out.old }
     {
-        let mut count = 0;
+        let mut changes = ArrayVec::new();
         for k in (0..self.len).rev() {
             let octet = self.correction(k);
             if octet != 0 {
-                out[count] = Change {
+                changes.push(Change {
                     place: self.len - 1 - k,
                     octet,
-                };
-                count += 1;
+                });
             }
         }
-        count
+        changes
     }
 }

@@ -1,7 +1,7 @@
 // A change to a word.
 
 // A place in a word, 0 for the first octet, and an octet to be added there.
-#[derive(Clone, Copy, PartialEq, Eq, Debug)]
+#[derive(Clone, Copy, Default, PartialEq, Eq, Debug)]
 pub struct Change {
     pub place: usize,
     pub octet: u8,

@@ -16,8 +16,8 @@ locate-requires-clause-few c =
     let t = c.args.t in
     omega (arith, few_located s t (length c.args.word.now) _ c.locator-vector.ensures c.requires.0)
 
-pub returns-clause-changes : goal.returns-clause-changes
-returns-clause-changes c =
+pub returns : goal.returns
+returns c =
     let w = c.args.word.now in
     let n = length w in
     let t = c.args.t in
@@ -31,6 +31,6 @@ returns-clause-changes c =
     record {
       vector = v;
       locates = locates_same s σ agree t v c.requires.1 l;
-      changes = rw (c.locate.ensures.syndromes, c.locate.ensures.vector, c.locate.ensures.len) at c.write.ensures.changes
+      changes = rw (c.locate.ensures.syndromes, c.locate.ensures.vector, c.locate.ensures.len) at c.changes.ensures
           ∙ repairs_same (correction octets s v ys) (correction octets σ v ys) n n (correction_same s σ agree v ys (omega arith));
     }

@@ -1,46 +1,48 @@
-use Rattle.std.proofs.Common.{◌≡◌, true, take, is_ok, sym, refl, ap, ◌∙◌, arith}
-use Rattle.std.proofs.lemmas.List.{drop-replicate, length-take-le}
+use Rattle.std.proofs.Common.{◌≡◌, ◌++◌, true, not, take, drop, replicate, is_ok, sym, ap, ap₂, ◌∙◌, arith, subst}
+use Rattle.std.proofs.Math.Seq.{take-append_seam}
+use Rattle.std.proofs.lemmas.List.{drop-replicate}
+use Rattle.std.proofs.lemmas.Slice.{drop-append-drop}
 use Rattle.std.proofs.ByRecursion.{All-from_get_or}
 use Rattle.std.proofs.lemmas.Bool.{both_ways}
 use Rattle.elements.specs.Octets.{Octet}
-use Rattle.words.specs.Changes.{fault_of, blank}
-use Rattle.mending.specs.Menders.{sound}
+use Rattle.words.specs.Changes.{fault_of, verdict, blank}
+use Rattle.mending.specs.Menders.{Found, sound}
 use Rattle.menders.proofs.Nearness.{ok_sound, proposed_found, proposed_accepted, proposed_near}
 use Rattle.menders.proofs.search.nearest.Goals as goal
-use Rattle.menders.proofs.search.nearest.Goals.{else-count-t-via-then-count-t+else-is_ok, else-count-t-via-else-count-t}
+use Rattle.menders.proofs.search.nearest.Goals.{then-len-t-via-then-len-t, then-len-t-via-else-len-t+then-is_err}
 
-pub returns-then-is_ok : goal.returns-then-is_ok
-returns-then-is_ok c =
+pub returns-then-len-t-clause-nearest : goal.returns-then-len-t-clause-nearest
+returns-then-len-t-clause-nearest c = λ d code long some near.
+    let t = c.args.t in
     let w = c.args.word.now in
-    let n = c.candidates-count.result in
-    let out = c.candidates-count.new.out in
-    let good : sound (fault_of w (take n out)) ≡ true =
-    sym (ok_sound (fault_of w (take n out))) ∙ sym (ap is_ok c.accept.ensures)
-    ∙ sym c.is_ok.ensures.value ∙ c.if-is_ok.true in
-    record {
-      nearest = proposed_found c.args.t w (take n out) c.candidates-count.ensures.changes (All-from_get_or Octet w 0 (λ i _. (c.type_inv.word i).fits))
-          (omega (arith, length-take-le c.candidates-count.result c.candidates-count.new.out (omega arith))) good;
-      written = (c.candidates-count.ensures.few, c.candidates-count.ensures.rest ∙ drop-replicate n 16 blank);
-    }
-
-pub returns : goal.returns
-returns c =
-    let w = c.args.word.now in
-    let n = c.candidates-count.result in
-    let out = c.candidates-count.new.out in
-    let P = c.candidates-count.ensures.changes in
+    let cs = c.candidates-changes.result.items in
+    let P = c.candidates-changes.ensures in
     let H = All-from_get_or Octet w 0 (λ i _. (c.type_inv.word i).fits) in
-    record {
-      nearest = λ d code long some near. elim c.else-count-t.branch [
-        | else-count-t-via-then-count-t+else-is_ok v ↦ both_ways v.is_ok.result v.if-is_ok.false
-            (v.is_ok.ensures.value ∙ ap is_ok v.accept.ensures ∙ ok_sound (fault_of w (take n out))
-            ∙ proposed_accepted c.args.t w (take n out) P H c.requires d code long some near)
-        | else-count-t-via-else-count-t v ↦ omega (
-          arith,
-          v.if-count-t.false,
-          proposed_near c.args.t w (take n out) P H c.requires d code long some near,
-          length-take-le c.candidates-count.result c.candidates-count.new.out (omega arith),
-        )
-      ];
-      written = refl;
-    }
+    elim c.then-len-t.branch [
+      | then-len-t-via-then-len-t v ↦ omega (arith, v.if-len-t.true, c.len.ensures.value, proposed_near t w cs P H c.requires d code long some near)
+      | then-len-t-via-else-len-t+then-is_err v ↦ both_ways (sound (fault_of w cs))
+          (sym (ok_sound (fault_of w cs)) ∙ sym (ap is_ok (v.accept.ensures ∙ ap (λ l. verdict (fault_of w l)) v.deref.ensures.0))
+          ∙ v.is_err.ensures.negation ∙ ap not v.if-is_err.true)
+          (proposed_accepted t w cs P H c.requires d code long some near)
+    ]
+
+pub returns-clause-nearest : goal.returns-clause-nearest
+returns-clause-nearest c =
+    let t = c.args.t in
+    let w = c.args.word.now in
+    let cs = c.candidates-changes.result.items in
+    let H = All-from_get_or Octet w 0 (λ i _. (c.type_inv.word i).fits) in
+    let good : sound (fault_of c.args.word.now c.candidates-changes.result.items) ≡ true =
+    sym (ok_sound (fault_of w cs)) ∙ sym (ap is_ok (c.accept.ensures ∙ ap (λ l. verdict (fault_of w l)) c.deref.ensures.0))
+    ∙ c.is_err.ensures.negation ∙ ap not c.if-is_err.false in
+    let rest = drop c.len-2.result (replicate 16 blank) in
+    subst (Found t w) (sym (ap₂ (λ n l. take n (l ++ rest)) c.len-3.ensures.value (c.copy_from_slice.ensures.after ∙ c.deref-2.ensures.0) ∙ take-append_seam cs rest))
+    (proposed_found t w cs c.candidates-changes.ensures H (omega (arith, c.if-len-t.false, c.len.ensures.value)) good)
+
+pub returns-clause-written : goal.returns-clause-written
+returns-clause-written c =
+    let n = c.len-3.result in (
+      omega (arith, c.len-3.ensures.fits),
+      drop-append-drop c.len-2.result (replicate 16 blank) c.copy_from_slice.new.self n (omega (arith, c.len-2.ensures.value, c.len-3.ensures.value))
+          (omega (arith, c.copy_from_slice.ensures.len)) ∙ drop-replicate n 16 blank,
+    )
