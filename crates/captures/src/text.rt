@@ -27,10 +27,7 @@ pub fn split_once(text: &[u8], octet: u8) -> (&[u8], &[u8])
 fn without_return(line: &[u8]) -> &[u8]
     ensures { result.now ≡ without_return line.now }
 {
-    match line.strip_suffix(b"\r") {
-        Some(front) => front,
-        None => line,
-    }
+    line.strip_suffix(b"\r").unwrap_or(line)
 }
 
 // The first line, without its newline and a carriage return at its end, and the text behind it.
