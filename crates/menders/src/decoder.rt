@@ -3,7 +3,6 @@ ghost use Rattle.std.specs.Prelude.{◌≤◌};
 ghost use Rattle.mending.specs.Menders.{Nearest};
 ghost use Rattle.menders.specs.MenderLaws.{nearest_mends_within};
 
-use crate::search::nearest;
 use mending::Mender;
 use words::Change;
 
@@ -31,6 +30,6 @@ impl<const REACH: usize> Mender for Decoder<REACH> {
     }
 
     fn propose(&mut self, word: &[u8], out: &mut [Change; 16]) -> Option<usize> {
-        nearest(word, REACH, out)
+        self.nearest(word, out)
     }
 }

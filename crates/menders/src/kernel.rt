@@ -1,11 +1,12 @@
 // The equations of the syndromes, solved by elimination over rows that start as the unit vectors.
-// Each row has nine coordinates, of which t + 1 are in use.
-ghost use Rattle.std.specs.Prelude.{◌≡◌, ◌+◌, ◌≤◌, take, not, ◌==◌, position};
+// Each row has nine coordinates, of which REACH + 1 are in use.
+ghost use Rattle.std.specs.Prelude.{◌≡◌, ◌+◌, take, not, ◌==◌, position};
 ghost use Rattle.elements.specs.Octets.{octets};
 ghost use Rattle.coding.specs.Kernel.{dot as dot_of, add_mul, clear_rows, eliminate_rows, kernel_rows, unit_rows};
 ghost use Rattle.coding.specs.Decoder.{windows};
 ghost use Rattle.menders.specs.Locators.{entries, Locates};
 
+use crate::decoder::Decoder;
 use arrayvec::ArrayVec;
 use elements::Element;
 
@@ -72,23 +73,23 @@ fn eliminate(rows: &mut Rows, equation: &[u8])
     clear(&mut rows[p..], &pivot, equation);
 }
 
-// The unit vectors, made to solve the t equations of the syndromes; t + 1 coordinates of each are in use.
-fn solutions(syndromes: &[u8; 16], t: usize) -> Rows
-    requires { t ≤ 8 }
-    ensures { result.items ≡ kernel_rows octets (windows (entries syndromes.now) (t + 1) 0 t) (unit_rows octets 9 0 (t + 1)) }
-{
-    let mut rows = ArrayVec::from(UNITS);
-    rows.truncate(t + 1);
-    for equation in syndromes[..2 * t].windows(t + 1) {
-        eliminate(&mut rows, equation);
+impl<const REACH: usize> Decoder<REACH> {
+    // The unit vectors, made to solve the REACH equations of the syndromes; REACH + 1 coordinates of each are in use.
+    fn solutions(&self, syndromes: &[u8; 16]) -> Rows
+        ensures { result.items ≡ kernel_rows octets (windows (entries syndromes.now) (REACH + 1) 0 REACH) (unit_rows octets 9 0 (REACH + 1)) }
+    {
+        let mut rows = ArrayVec::from(UNITS);
+        rows.truncate(REACH + 1);
+        for equation in syndromes[..2 * REACH].windows(REACH + 1) {
+            eliminate(&mut rows, equation);
+        }
+        rows
     }
-    rows
-}
 
-// A vector that locates the wrong places, if no more than t are wrong: its first t + 1 coordinates.
-pub(crate) fn locator(syndromes: &[u8; 16], t: usize) -> [u8; 9]
-    requires { t ≤ 8 }
-    ensures { Locates (entries syndromes.now) t (take (t + 1) result) }
-{
-    solutions(syndromes, t)[0]
+    // A vector that locates the wrong places, if no more than REACH are wrong: its first REACH + 1 coordinates.
+    pub(crate) fn locator(&self, syndromes: &[u8; 16]) -> [u8; 9]
+        ensures { Locates (entries syndromes.now) REACH (take (REACH + 1) result) }
+    {
+        self.solutions(syndromes)[0]
+    }
 }

@@ -6,17 +6,17 @@ use Rattle.coding.specs.Decoder.{windows}
 use Rattle.menders.specs.Locators.{entries}
 use Rattle.menders.proofs.Elimination.{kernel_more}
 use Rattle.menders.proofs.Narrowing.{take_units}
-use Rattle.menders.proofs.kernel.solutions.Goals as goal
+use Rattle.menders.proofs.decoder.Decoder.solutions.Goals as goal
 
 pub loop-equation-preserved : goal.loop-equation-preserved
-loop-equation-preserved c =
+loop-equation-preserved g c =
     let i = c.loop-equation.invariant in
     let s = c.args.syndromes.now in
-    let t = c.args.t in
+    let t = g.row.REACH in
     let k = i.0 in
     let step = c.in-Some.ensures.steps in
     let rest = i.3 in
-    let below : i.0 < c.args.t =
+    let below : i.0 < g.row.REACH =
     omega (arith, step.1.0, i.2, ap length rest, length-drop k (take (2 * t) s), length-take-le (2 * t) s (omega arith)) in (
       k + 1,
       omega arith,
@@ -27,12 +27,12 @@ loop-equation-preserved c =
     )
 
 pub returns : goal.returns
-returns c =
+returns g c =
     let i = c.loop-equation.invariant in
     let s = entries c.args.syndromes.now in
-    let t = c.args.t in
+    let t = g.row.REACH in
     let k = i.0 in
-    let none : c.args.t - i.0 ≡ 0 =
+    let none : g.row.REACH - i.0 ≡ 0 =
     omega (arith, c.in-None.ensures.steps.1.0, i.2, ap length i.3, length-drop k (take (2 * t) c.args.syndromes.now), length-take-le (2 * t) c.args.syndromes.now (omega arith)) in
     sym (ap (λ m. kernel_rows octets (windows s (t + 1) k m) c.loop-equation.rows.items) none) ∙ i.4
     ∙ ap (kernel_rows octets (windows s (t + 1) 0 t))
