@@ -1,8 +1,5 @@
-use Rattle.std.proofs.Common.{◌-◌, ◌++◌, ap, ◌∙◌, arith}
-use Rattle.elements.specs.Octets.{octets}
-use Rattle.coding.specs.Decoder.{correction}
+use Rattle.std.proofs.Common.{arith}
 use Rattle.menders.specs.Locators.{entries}
-use Rattle.menders.specs.Repairs.{repairs}
 use Rattle.menders.proofs.Findings.{room, added, passed_over}
 use Rattle.menders.proofs.values.Errors.changes.Goals as goal
 
@@ -16,9 +13,8 @@ push-requires c =
 pub loop-k-preserved-then-octet-ne0 : goal.loop-k-preserved-then-octet-ne0
 loop-k-preserved-then-octet-ne0 c =
     let e = c.args.self.now in
-    ap (λ l. l ++ repairs (correction octets (entries e.syndromes.now) e.vector.now e.found.items) e.len (c.loop-k.k - 1)) c.push.ensures.items
-    ∙ added (entries e.syndromes.now) e.vector.now e.found.items e.len c.loop-k.k c.correction-octet.result e.all e.few c.loop-k-test.true c.correction-octet.ensures
-    c.loop-k.changes.items c.loop-k.invariant c.if-octet-ne0.true
+    rw c.push.ensures.items (added (entries e.syndromes.now) e.vector.now e.found.items e.len c.loop-k.k c.correction-octet.result e.all e.few c.loop-k-test.true c.correction-octet.ensures
+    c.loop-k.changes.items c.loop-k.invariant c.if-octet-ne0.true)
 
 pub loop-k-preserved : goal.loop-k-preserved
 loop-k-preserved c =
