@@ -123,6 +123,7 @@ impl<'a> Errors<'a> {
     }
 
     // What is wrong as changes, in ascending place.
+    #[tactic(auto, using(crate::proofs::Findings::room, crate::proofs::Findings::added, crate::proofs::Findings::passed_over))]
     pub(crate) fn changes(&self) -> ArrayVec<Change, 8>
         ensures { let e = self.now in result.items
             ≡ repairs (correction_of octets (entries e.syndromes.now) e.vector.now (roots octets power e.vector.now e.len)) e.len e.len }
