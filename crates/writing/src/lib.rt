@@ -6,7 +6,7 @@ mod chips;
 mod octets;
 mod text;
 
-pub use changes::write_changes;
-pub use chips::write_chips;
-pub use octets::write_octets;
+pub use changes::{Changes, write_changes};
+pub use chips::{Chips, write_chips};
+pub use octets::{Octets, write_octets};
 pub use text::put;
