@@ -1,17 +1,14 @@
--- Texts that are written one behind the other, and octets as digits.
-use Rattle.std.proofs.Common.{◌≡◌, ℕ, ◌-◌, ◌^◌, ◌<◌, false, List, ◌++◌, take, get_or, Some, Result, OnOk, refl, subst, ap, ◌∙◌, length, ◌+◌, codes}
+-- Octets as digits, and changes one behind the other.
+use Rattle.std.proofs.Common.{◌≡◌, ℕ, ◌-◌, ◌^◌, ◌<◌, false, List, ◌++◌, take, get_or, Some, refl, ap, length, ◌+◌, codes}
 use Rattle.std.specs.Fmt.{digits, digits_output, styled_digits_output, format_spec}
 use Rattle.std.proofs.lemmas.Fmt.{hex_byte}
-use Rattle.std.proofs.lemmas.List.{append_assoc, take_more, flat_map_more}
+use Rattle.std.proofs.lemmas.List.{take_more, flat_map_more}
 use Rattle.std.proofs.lemmas.List.Recursion.{same_from_clauses}
 use Rattle.std.specs.List.{flat_map}
 use Rattle.words.specs.declared.change.Change.{Change}
 use Rattle.words.specs.Changes.{blank}
 use Rattle.writing.specs.Changes.{change_written, listed}
 use Rattle.writing.specs.Octets.{octet_written}
-
-pub then_text : {E : Type 0} (r : Result (Unit {0}) E) (start first second a b : List ℕ) → first ≡ start ++ a → OnOk r (second ≡ first ++ b) → OnOk r (second ≡ start ++ (a ++ b))
-then_text r start first second a b e = subst (λ (cs : List ℕ). OnOk r (second ≡ cs)) (ap (λ (s : List ℕ). s ++ b) e ∙ append_assoc start a b)
 
 pub two_digits : (d : _) (s : _) (o : ℕ) → o < 256 → digits_output d ≡ Some (digits 16 false o) → s ≡ format_spec 32 0 4 2 (2 ^ 64 - 1) → styled_digits_output d s ≡ Some (octet_written o)
 two_digits d s o lt e f = rw (f, e) (ap (λ (bs : List ℕ). Some bs) (hex_byte false o lt))
