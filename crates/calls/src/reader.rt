@@ -119,7 +119,7 @@ pub fn read_call(heap: Global, text: &[u8]) -> Result<Call, Stop>
     ensures { Reads said (call_said text.now) result }
 {
     let words = Words { heap, text };
-    // As text: of an arm on octets a proof learns their values one by one, and of thirteen such arms too much.
+    // As text: over thirteen arms on octets the proof search does not come to an end.
     let Ok(name) = str::from_utf8(words.word(0)) else {
         return Err(Stop::Wrong(Wrong::Call));
     };

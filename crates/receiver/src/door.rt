@@ -19,7 +19,6 @@ pub fn admit(n: u8, chips: &[u8], body: &[u8], mac: &[u8]) -> Result<(), DoorFau
     if chips.len() < 2560 * n as usize + 4096 || chips.len() > 65536 {
         return Err(DoorFault::Window);
     }
-    // The last row, as an `if let`: with `map_or` the place would stand before the refusal.
     if let Some(place) = first_bad_chip(chips) {
         return Err(DoorFault::Chip(place));
     }

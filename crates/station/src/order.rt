@@ -5,7 +5,7 @@ use faults::{Built, Delivery, Fault};
 // A call on common buffers: a build writes the body to the chips, and a read takes the chips as its window.
 #[derive(Clone, Copy, PartialEq, Eq, Debug)]
 pub enum Order {
-    // The mode's number, whatever it is, and whether the frame is aggregated.
+    // The mode's number, and whether the frame is aggregated.
     Build(u8, bool),
     // The channels.
     Read(u8),
