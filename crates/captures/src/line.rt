@@ -1,19 +1,19 @@
 // One line of a capture: a channel count, a space, and a window's chips.
 ghost use Rattle.std.specs.Prelude.{◌≡◌, ◌-◌, map, IfOk, Some, MatchResult};
-ghost use Rattle.captures.specs.Windows.{digit_on, channel_count, chip_digit, bad_digit, line_fault, WindowIn};
+ghost use Rattle.captures.specs.Windows.{with_digit, channel_count, chip_digit, bad_digit, line_fault, WindowIn};
 
 use crate::fault::LineFault;
 use crate::text::split_once;
 use std::alloc::{AllocError, Global};
 
-// A count with one more decimal digit behind it; none where that passes 255, the octet is no digit, or there was none.
-fn digit_on(count: Option<u8>, octet: u8) -> Option<u8>
-    ensures { result ≡ digit_on count octet }
+// A count with one more decimal digit behind it; none where that passes 255, or the octet is no digit.
+fn with_digit(count: u8, octet: u8) -> Option<u8>
+    ensures { result ≡ with_digit count octet }
 {
     if !octet.is_ascii_digit() {
         return None;
     }
-    count?.checked_mul(10)?.checked_add(octet - b'0')
+    count.checked_mul(10)?.checked_add(octet - b'0')
 }
 
 // A number up to 255 in decimal digits.
@@ -23,7 +23,12 @@ fn channel_count(field: &[u8]) -> Option<u8>
     if field.is_empty() {
         return None;
     }
-    field.iter().fold(Some(0), |count, d| digit_on(count, *d))
+    let mut count = 0;
+    // Up to the first octet that is no digit: a line may be long, and hold no window.
+    for d in field {
+        count = with_digit(count, *d)?;
+    }
+    Some(count)
 }
 
 fn is_chip_digit(octet: u8) -> bool
