@@ -10,9 +10,10 @@ use std::alloc::{AllocError, Global};
 // As much of the file's octets as frame k, from 0, carries: 2,048 to a frame, over and over.
 fn share(octets: &[u8], k: u32) -> &[u8] {
     let shares = octets.chunks(2048).len().max(1);
+    let start = 2048 * (k as usize % shares);
     octets
-        .chunks(2048)
-        .nth(k as usize % shares)
+        .get(start..)
+        .and_then(|rest| rest.chunks(2048).next())
         .unwrap_or_default()
 }
 
