@@ -1,11 +1,11 @@
 // The counts by kind, in the order in which the kinds first appear.
 use crate::count::Count;
-use indexmap::IndexMap;
 use std::alloc::{AllocError, Global};
 
+// Two kinds may read alike: a name that is no text is no name that stands here already, and makes a kind of its own.
 #[derive(Drop)]
 pub struct Kinds {
-    counts: IndexMap<String, Count>,
+    counts: Vec<(String, Count)>,
     // The place of the kind that calls are of.
     current: usize,
 }
@@ -13,16 +13,22 @@ pub struct Kinds {
 impl Kinds {
     pub(crate) fn new(heap: Global) -> Kinds {
         Kinds {
-            counts: IndexMap::new(heap),
+            counts: Vec::new(heap),
             current: 0,
         }
     }
 
     // The calls from here on are of this kind.
     pub(crate) fn enter(&mut self, heap: Global, name: &[u8]) -> Result<(), AllocError> {
-        let entry = self.counts.entry(String::from_utf8_lossy(heap, name)?)?;
-        self.current = entry.index();
-        entry.or_insert(Count::default());
+        let known = self
+            .counts
+            .iter()
+            .position(|(kind, _)| kind.as_bytes() == name);
+        self.current = known.unwrap_or(self.counts.len());
+        if known.is_none() {
+            let kind = String::from_utf8_lossy(heap, name)?;
+            self.counts.push((kind, Count::default()))?;
+        }
         Ok(())
     }
 
@@ -31,19 +37,19 @@ impl Kinds {
         if self.counts.is_empty() {
             self.enter(heap, b"no kind")?;
         }
-        if let Some(count) = self.counts.get_index_mut(self.current) {
+        if let Some((_, count)) = self.counts.get_mut(self.current) {
             count.note(agrees);
         }
         Ok(())
     }
 
-    pub(crate) fn counts(&self) -> &IndexMap<String, Count> {
-        &self.counts
+    pub(crate) fn counts(&self) -> &[(String, Count)] {
+        self.counts.as_slice()
     }
 
     pub(crate) fn total(&self) -> Count {
         self.counts
-            .values()
-            .fold(Count::default(), |total, count| total.plus(*count))
+            .iter()
+            .fold(Count::default(), |total, (_, count)| total.plus(*count))
     }
 }
