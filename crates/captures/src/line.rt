@@ -13,7 +13,7 @@ fn with_digit(count: u8, octet: u8) -> Option<u8>
     if !octet.is_ascii_digit() {
         return None;
     }
-    count.checked_mul(10)?.checked_add(octet - b'0')
+    u8::try_from(10 * u16::from(count) + u16::from(octet - b'0')).ok()
 }
 
 // A number up to 255 in decimal digits.
