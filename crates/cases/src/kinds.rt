@@ -2,7 +2,7 @@
 use crate::count::Count;
 use std::alloc::{AllocError, Global};
 
-// Two kinds may read alike: a name that is no text is no name that stands here already, and makes a kind of its own.
+// A name that is not UTF-8 is written as the text next to it, but is equal to none here: each line with such a name begins a kind of its own.
 #[derive(Drop)]
 pub struct Kinds {
     counts: Vec<(String, Count)>,
